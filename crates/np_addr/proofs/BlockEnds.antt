@@ -1,4 +1,4 @@
--- Blocks of a family by the numbers that they begin and end at.
+-- Blocks of a family by the numbers that they begin and end at. For RightPrefixes.
 use Rattle.std.proofs.Common.{◌≡◌, ℕ, ◌+◌, ◌-◌, ◌%◌, ◌^◌, ◌≤◌, false, ◌&&◌, nat_le, nat_lt, refl, ap, ◌∙◌, arith}
 use Rattle.std.proofs.lemmas.Bool.{and_left, lt-leb, false≢true}
 use Rattle.std.proofs.lemmas.Nat.{pow_pos}

@@ -1,4 +1,5 @@
 -- The canonical text of an address is a text of that address, so reading it gives the address again.
+-- For `canonical_text_reads_again`, `canonical_texts_differ` and 4 more.
 use Rattle.std.proofs.Common.{◌≡◌, ℕ, zero, suc, ◌+◌, ◌-◌, ◌*◌, ◌/◌, ◌%◌, ◌^◌, ◌<◌, ◌≤◌, ◌==◌, Bool, true, false, List, [], ◌∷◌, ◌++◌, length, take, drop, replicate, decimal, codes, Some, refl, sym}
 use Rattle.std.proofs.Common.{ap, ◌∙◌, inl, inr, append-nil, append_assoc, take-add, take-append-drop, length-take-le, length-drop, one-mul, arith, lit≤, lit<}
 use Rattle.std.proofs.Math.Nat.{div-lt_iff_lt-mul, div-eq_of_lt, pow-zero, pow-suc}

@@ -1,4 +1,4 @@
--- The text of a block.
+-- The text of a block. For `find_cidr`.
 use Rattle.std.proofs.Common.{◌≡◌, ℕ, List, ◌∷◌, Option, Some, None, inl, inr, refl, sym, lit≤}
 use Rattle.np_addr.specs.Types.{Address}
 use Rattle.np_addr.specs.Addresses.{family_of, width_of}

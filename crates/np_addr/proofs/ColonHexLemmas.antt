@@ -1,4 +1,4 @@
--- The text of an IPv6 address is read to its groups, and no other text is.
+-- The text of an IPv6 address is read to its groups, and no other text is. For GrammarLemmas.
 use Rattle.std.proofs.Common.{◌≡◌, ℕ, ◌-◌, ◌<◌, Bool, true, false, cond, List, [], ◌∷◌, ◌++◌, length, replicate, codes, Option, Some, None, option_map, All, refl, sym, ap, ◌∙◌, inl, inr, append-nil, append_assoc, arith, lit≤}
 use Rattle.std.proofs.lemmas.Bool.{eqb-true, eq-eqb, lt-ltb, ltb-true}
 use Rattle.std.proofs.lemmas.List.Elements.{All-head}

@@ -1,4 +1,4 @@
--- The text of an IPv4 address is read to its number, and no other text is.
+-- The text of an IPv4 address is read to its number, and no other text is. For ColonHexLemmas, GrammarLemmas and crates above.
 use Rattle.std.proofs.Common.{◌≡◌, ℕ, ◌≤◌, ◌==◌, false, List, [], ◌∷◌, ◌++◌, codes, Some, All, sym, ap, ◌∙◌, append_assoc, lit≤}
 use Rattle.std.proofs.lemmas.Bool.{le-leb, leb-true}
 use Rattle.std.proofs.lemmas.List.Elements.{All-append, All-cons}

@@ -1,4 +1,4 @@
--- The texts of addresses and of blocks are read to their values, and no other text is.
+-- The texts of addresses and of blocks are read to their values, and no other text is. For `texts_are_read_exactly` and crates above.
 use Rattle.std.proofs.Common.{◌≡◌, ◌↔◌, ℕ, ◌<◌, ◌==◌, ◌&&◌, nat_lt, Bool, true, false, cond, List, [], ◌∷◌, ◌++◌, length, slice_index, codes, Option, Some, None, option_map, All, refl, sym, ap, ◌∙◌}
 use Rattle.std.proofs.Common.{inl, inr, append_assoc, arith, lit≤}
 use Rattle.std.proofs.lemmas.Bool.{cases_lt, cases_eq, or_from, or_parts, and_left, and_right, and_from, both_ways, ltb-false, le-ltb, lt-ltb, eq-eqb, ne_eqb, true≢false}

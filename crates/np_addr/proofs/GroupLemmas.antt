@@ -1,4 +1,4 @@
--- Groups of 16 bits, and the number that they make.
+-- Groups of 16 bits, and the number that they make. For `Groups::filled`, `Groups::push` and `Groups::whole`.
 use Rattle.std.proofs.Common.{◌≡◌, ℕ, zero, suc, ◌+◌, ◌-◌, ◌*◌, ◌/◌, ◌%◌, ◌^◌, ◌<◌, ◌≤◌, [], ◌∷◌, ◌++◌, length, replicate, Some, None, refl, sym, ap, ap₂, ◌∙◌, add-zero, add-one, one-mul, lit≤, arith}
 use Rattle.std.proofs.Math.Nat.{mul-le-mul_right, pow-le-pow_right, mul_assoc, add-mul, mod-eq_of_lt}
 use Rattle.std.proofs.lemmas.Bool.{ne_eqb, le-ltb, lt-ltb, le-leb}

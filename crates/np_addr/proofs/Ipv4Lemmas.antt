@@ -1,4 +1,4 @@
--- The text of IPv4 addresses.
+-- The text of IPv4 addresses. For `read_ipv4` and `read_part`.
 use Rattle.std.proofs.Common.{◌≡◌, ℕ, ◌<◌, List, ◌∷◌, Option, Some, None, Result, Ok, Err, inl, inr, refl, sym, arith, lit≤}
 use Rattle.std.proofs.lemmas.Bool.{le-leb, lt-leb, cases_lt}
 use Rattle.std.specs.Result.{result_ok, OkIff}

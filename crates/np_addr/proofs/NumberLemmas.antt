@@ -1,4 +1,4 @@
--- Looking a block up among numbers that ascend.
+-- Looking a block up among numbers that ascend. For `Addresses::some_in` and `some_covered`.
 use Rattle.std.proofs.Common.{◌≡◌, ℕ, suc, ◌+◌, ◌-◌, ◌^◌, ◌<◌, ◌≤◌, List, [], ◌∷◌, Bool, true, false, ◌||◌, length, get_or, nat_le, nat_lt, refl, sym, ap, subst, ◌∙◌, arith}
 use Rattle.std.specs.List.{filter_map, list_any}
 use Rattle.std.specs.List.Sorted.{IsNonDecreasing, IsPartitionPoint}

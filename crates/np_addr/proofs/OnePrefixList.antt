@@ -1,4 +1,5 @@
 -- One list is right for a set, and none with its addresses is shorter.
+-- For `no_prefix_list_is_shorter`, `one_prefix_list_is_right` and crates above.
 use Rattle.std.proofs.Common.{◌≡◌, ℕ, ◌+◌, ◌-◌, ◌^◌, ◌<◌, ◌≤◌, Bool, true, false, not, List, [], ◌∷◌, length, get_or, All, AllPairs, Any, Contains, filter, sym, ap, ◌∙◌, inl, inr, arith}
 use Rattle.std.proofs.lemmas.Bool.{cases_Bool, cases_order, or_cases, or_left, or_right, false_from_ne_true, both_ways, false≢true}
 use Rattle.std.proofs.lemmas.List.{get_or_default}

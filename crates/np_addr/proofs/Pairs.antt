@@ -1,4 +1,4 @@
--- Lists of which facts hold in pairs, or of some element.
+-- Lists of which facts hold in pairs, or of some element. For RightPrefixes and crates above.
 use Rattle.std.proofs.Common.{zero, ◌+◌, List, [], ◌∷◌, ◌++◌, length, AllPairs, Any, refl, ◌∙◌, arith}
 use Rattle.std.proofs.lemmas.List.{get_or_append_left, get_or-append-add, length-append}
 

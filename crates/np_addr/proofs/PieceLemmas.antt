@@ -1,4 +1,4 @@
--- How a text is cut at separators.
+-- How a text is cut at separators. For `split_first` and crates above.
 use Rattle.std.proofs.Common.{◌≡◌, ℕ, ◌<◌, false, ◌==◌, List, [], ◌∷◌, ◌++◌, Option, Some, None, MatchOption, All, ◌⊎◌, inl, inr, ◌≤◌, refl, ap, ◌∙◌, arith}
 use Rattle.std.proofs.lemmas.Bool.{ne_eqb, eq-eqb, cases_Bool}
 use Rattle.std.proofs.lemmas.List.Elements.{All-from_get_or, All-nil, All-cons}

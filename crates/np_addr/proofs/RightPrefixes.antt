@@ -1,4 +1,4 @@
--- The list that the definition gives is right for its set.
+-- The list that the definition gives is right for its set. For `prefixes_are_right`, `prefixes` and crates above.
 use Rattle.std.proofs.Common.{◌≡◌, ℕ, zero, suc, ◌+◌, ◌-◌, ◌*◌, ◌/◌, ◌%◌, ◌^◌, ◌<◌, ◌≤◌, Bool, true, false, ◌&&◌, ◌||◌, List, [], ◌∷◌, ◌++◌, All, AllPairs, Any, flat_map, refl, sym, ap, ◌∙◌, inl, inr, arith, lit≤}
 use Rattle.std.proofs.Math.Nat.{mul-mod_left, add-mod_right, pow-suc, pow-le-pow_right}
 use Rattle.std.proofs.lemmas.Bool.{and_parts, and_from, or_cases, or_from, cases_lt, cases_Bool, leb-true, le-leb, false_from_ne_true, both_ways, false≢true}

@@ -1,4 +1,4 @@
--- Lists in one order, with the same elements, are equal.
+-- Lists in one order, with the same elements, are equal. For OnePrefixList and crates above.
 use Rattle.std.proofs.Common.{◌≡◌, zero, suc, ◌⊎◌, List, [], ◌∷◌, AllPairs, Contains, refl, sym, ap, subst, ◌∙◌, inl, inr, arith}
 use Rattle.std.proofs.lemmas.List.Elements.{All-contains}
 use Rattle.np_base.proofs.Lists.{AllPairs-head, AllPairs-tail, Contains-later}

@@ -1,4 +1,4 @@
--- Blocks by their first bits, and blocks in one another.
+-- Blocks by their first bits, and blocks in one another. For `block_is_first_bits` and `strict_part_is_strict_subset`.
 use Rattle.std.proofs.Common.{◌≡◌, ◌↔◌, ℕ, ◌+◌, ◌-◌, ◌*◌, ◌/◌, ◌%◌, ◌^◌, ◌<◌, ◌≤◌, true, false, nat_lt, sym, ap, ◌∙◌, inl, inr, one-mul, arith, lit≤}
 use Rattle.std.proofs.Math.Nat.{mul_assoc, add-mul, mul-le-mul_right, pow-le-pow_right, div-lt_iff_lt-mul, div-eq_of_lt-le}
 use Rattle.std.proofs.lemmas.Bool.{and_parts, and_from, and_left, and_right, cases_lt, leb-true, ltb-true, le-leb, lt-ltb, lt-leb, le-ltb, both_ways, false≢true}

@@ -1,4 +1,5 @@
 -- What clap's contract says of the words of a simple command, and of what it finds of them.
+-- For `EvaluateWordsCommandWords::job`, `EvaluateWordsCommandWords::line` and 9 more.
 use Rattle.std.proofs.Common.{◌≡◌, ◌∙◌, ap, ap₂, Bor, List, [], ◌∷◌, Bool, true, false, MatchOption, Option, Some, None, codes, map, option_and_then, option_map, refl, unwrap_or, true≢false, inl, inr, sym, if◌then◌else◌}
 use Rattle.clap.proofs.WalkLemmas.{both, first_value-rows, raw_values-rows}
 use Rattle.clap.specs.Built.{AddsArg}

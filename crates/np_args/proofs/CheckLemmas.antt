@@ -1,4 +1,4 @@
--- The command line of `check`: clap is exact for it, and what its values make.
+-- The command line of `check`: clap is exact for it, and what its values make. For `statement_is_read_after_its_option`.
 use Rattle.std.proofs.Common.{◌≡◌, ◌∙◌, ◌+◌, ◌∷◌, ◌++◌, [], ap, arith, Bool, List, None, Option, Some, codes, false, fold, if◌then◌else◌, refl, sym, true}
 use Rattle.std.proofs.lemmas.Bool.{false_from_ne_true, false≢true, lt-ltb, ltb-true}
 use Rattle.std.proofs.lemmas.List.Sums.{sum_by-cons}

@@ -1,4 +1,4 @@
--- The command line of `evaluate`: clap is exact for it, and what its values make.
+-- The command line of `evaluate`: clap is exact for it, and what its values make. For `EvaluateWordsCommandWords::job`.
 use Rattle.std.proofs.Common.{◌≡◌, ◌∙◌, ℕ, ap, List, Option, Some, codes}
 use Rattle.clap.specs.Walk.{Row}
 use Rattle.np_addr.specs.Steps.{◌>>=◌}

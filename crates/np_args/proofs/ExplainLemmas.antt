@@ -1,4 +1,5 @@
 -- The command line of `explain`: clap is exact for it, and what its values make.
+-- For `ExplainWordsCommandWords::job` and `ends_are_read_of_their_options`.
 use Rattle.std.proofs.Common.{◌≡◌, ◌∙◌, ◌∷◌, ◌++◌, [], ap, List, Option, Some, codes, refl}
 use Rattle.clap.proofs.OnLiterals.{clap_on_literals}
 use Rattle.clap.specs.Walk.{Row}

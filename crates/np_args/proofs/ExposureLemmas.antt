@@ -1,4 +1,5 @@
 -- The command line of `exposure`: clap is exact for it, and what its values make.
+-- For `ExposureWordsCommandWords::job` and `exposure_is_of_all_or_of_one`.
 use Rattle.std.proofs.Common.{◌≡◌, ◌∙◌, ◌∷◌, ◌++◌, [], ap, List, None, Option, Some, codes, refl}
 use Rattle.clap.proofs.OnLiterals.{clap_on_literals}
 use Rattle.clap.specs.Walk.{Row, first_of}

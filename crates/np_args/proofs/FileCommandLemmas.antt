@@ -1,4 +1,4 @@
--- The command lines that take files alone: clap is exact for them, and which files they name.
+-- The command lines that take files alone: clap is exact for them, and which files they name. For `words_without_options_are_files`.
 use Rattle.std.proofs.Common.{◌≡◌, ◌∙◌, ◌∷◌, ◌++◌, [], ap, Bool, List, None, Some, codes, false, if◌then◌else◌, option_map, refl, true}
 use Rattle.std.specs.List.{list_all}
 use Rattle.clap.specs.Faults.{defaults_fault}

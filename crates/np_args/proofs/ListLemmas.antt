@@ -1,4 +1,4 @@
--- The command line of `list`: clap is exact for it, and what its values make.
+-- The command line of `list`: clap is exact for it, and what its values make. For `ListWordsCommandWords::job`.
 use Rattle.std.proofs.Common.{◌≡◌, List, Option, Some, codes, refl}
 use Rattle.clap.specs.Simple.{Shape, built}
 use Rattle.clap.specs.Walk.{Row, Rule, first_of}

@@ -1,4 +1,5 @@
 -- Options that clap refuses: those that `list` does not have, and those that are given twice.
+-- For `options_given_twice_ask_for_nothing` and `other_options_ask_for_nothing`.
 use Rattle.std.proofs.Common.{◌≡◌, ◌≢◌, ◌∙◌, ◌==◌, ◌++◌, ℕ, ap, List, [], ◌∷◌, true, false, Option, Some, None, arith, length, codes, if◌then◌else◌, inl, inr, slice_get, subst, refl}
 use Rattle.std.proofs.lemmas.Bool.{false≢true, ne_eqb, or_cases, or_parts}
 use Rattle.std.proofs.lemmas.Slice.Eq.{bytes_eq-Decides}

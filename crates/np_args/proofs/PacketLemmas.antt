@@ -1,4 +1,4 @@
--- What the words of `evaluate` ask for.
+-- What the words of `evaluate` ask for. For `packet_is_read_of_its_options`.
 use Rattle.std.proofs.Common.{◌≡◌, ◌∙◌, ◌++◌, ℕ, [], ◌∷◌, Option, Some, ap, codes, refl}
 use Rattle.clap.proofs.OnLiterals.{clap_on_literals}
 use Rattle.np_conns.specs.ConnsText.{proto_named}

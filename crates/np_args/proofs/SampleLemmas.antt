@@ -1,4 +1,4 @@
--- The command line of `sample`: clap is exact for it, and which words are its number.
+-- The command line of `sample`: clap is exact for it, and which words are its number. For `sample_takes_one_number`.
 use Rattle.std.proofs.Common.{◌≡◌, ◌≢◌, ◌∙◌, ◌∷◌, ◌≤◌, ℕ, [], ap, arith, List, None, Option, Some, codes, decimal, option_map, refl, true}
 use Rattle.clap.proofs.OnLiterals.{clap_on_literals}
 use Rattle.np_args.proofs.FileLemmas.{plain_words}

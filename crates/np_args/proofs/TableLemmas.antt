@@ -1,4 +1,4 @@
--- What the words of `list` ask for: files, and options before them.
+-- What the words of `list` ask for: files, and options before them. For `controller_is_any_name`, `focus_is_any_name` and 3 more.
 use Rattle.std.proofs.Common.{◌≡◌, ◌∙◌, ◌==◌, ◌++◌, ap, List, [], ◌∷◌, Bool, true, false, Option, Some, None, codes, append_assoc, fold, if◌then◌else◌, option_and_then, refl, sym}
 use Rattle.std.proofs.lemmas.Bool.{eqb-true}
 use Rattle.std.proofs.lemmas.Option.{none-some}

@@ -1,4 +1,4 @@
--- What the readers of values find in a word.
+-- What the readers of values find in a word. For `EndWord::of` and `read_number`.
 use Rattle.std.proofs.Common.{◌≡◌, ◌≢◌, ◌∙◌, ◌==◌, ◌&&◌, ◌^◌, ℕ, suc, ◌<◌, ◌≤◌, ap, sym, Bool, true, false, MatchBool, List, [], ◌∷◌, length, get_or, Option, Some, None, option_map, Result, Ok, Err}
 use Rattle.std.proofs.Common.{refl, inl, inr, lit<, arith, nat_le, if◌then◌else◌}
 use Rattle.std.proofs.lemmas.Bool.{and_from, and_parts, eq-eqb, eqb-false, eqb-true, false_from_ne_true, le-leb, leb-true, lt-ltb, ltb-true, ne_eqb, not-true, or_cases, false≢true}

@@ -1,4 +1,4 @@
--- Answers about two spaces side by side, from the answers about each.
+-- Answers about two spaces side by side, from the answers about each. For `BesideCells::is_empty` and `BesideCells::same`.
 use Rattle.std.specs.Prelude.{◌≡◌, Bool, true, false, not, MatchBool}
 use Rattle.np_base.specs.Beside.{by_side, equal_by_parts}
 use Rattle.np_base.specs.declared.beside.Beside.{Beside}

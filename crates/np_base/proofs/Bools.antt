@@ -1,4 +1,4 @@
--- Tests that are joined.
+-- Tests that are joined. For crates above.
 use Rattle.std.proofs.Common.{◌≡◌, Bool, true, false, not, ◌||◌, refl, ◌&&◌, ℕ, ◌==◌, sym}
 use Rattle.std.proofs.lemmas.Bool.{true≢false, false≢true, eq-eqb, eqb-true}
 use Rattle.std.specs.Cmp.{both_ways}

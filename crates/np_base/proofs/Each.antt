@@ -1,4 +1,4 @@
--- Lists of which each item passes, by recursion over the list.
+-- Lists of which each item passes, by recursion over the list. For crates above.
 use Rattle.std.proofs.Common.{List, [], ◌∷◌, ◌++◌, Bool, true, false, if◌then◌else◌}
 use Rattle.std.specs.List.{AllByRecursion}
 

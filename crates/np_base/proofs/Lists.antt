@@ -1,4 +1,4 @@
--- Lists: what holds of each item and of each pair, an item at a place, and a list with one item more.
+-- Lists: what holds of each item and of each pair, an item at a place, and a list with one item more. For crates above.
 use Rattle.std.proofs.Common.{zero, suc, List, ◌∷◌, All, AllPairs, arith, [], ◌++◌, Contains, ◌≡◌, ℕ, ◌+◌, refl, sym, ap, ◌∙◌, add-zero, suc-add, ◌<◌, length, Some, get_or, Bool, ◌||◌, take, true, false, cond, None, drop, ◌≤◌, fold, ◌==◌}
 use Rattle.std.proofs.lemmas.List.Elements.{All-head, All-tail, All-append, All-weaker, All-nil}
 use Rattle.std.proofs.lemmas.List.Kept.{AllPairs-cons}

@@ -1,4 +1,4 @@
--- Options.
+-- Options. For crates above.
 use Rattle.std.proofs.Common.{◌≡◌, Some, Option, None, refl, true, is_some}
 use Rattle.std.specs.Option.{option_or, option_map}
 

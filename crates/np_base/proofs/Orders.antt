@@ -1,4 +1,4 @@
--- Orders: of texts, and one after another.
+-- Orders: of texts, and one after another. For crates above.
 use Rattle.std.proofs.Common.{◌≡◌, ℕ, false, List, Less, sym, ap, ◌∙◌, Ordering, Equal, Greater}
 use Rattle.std.specs.Cmp.Lexicographic.{nat_list_cmp_total, slice_cmp}
 use Rattle.std.specs.Ordering.{nat_cmp, is_eq, ordering_reverse, ordering_then}

@@ -1,4 +1,4 @@
--- Ascending lists of ranges: one list for each set of numbers.
+-- Ascending lists of ranges: one list for each set of numbers. For crates above.
 use Rattle.std.proofs.Common.{◌≡◌, ℕ, ◌+◌, ◌<◌, ◌≤◌, List, [], ◌∷◌, Bool, true, false, ◌||◌, refl, sym, ◌∙◌, ap, arith, inl, inr}
 use Rattle.std.proofs.lemmas.Bool.{and_from, and_left, and_right, or_from, or_left, lt-leb, le-leb, cases_order, cases_lt}
 use Rattle.np_base.specs.Ranges.{is_within, holds, IsAscending}

@@ -1,4 +1,4 @@
--- Bytes of texts.
+-- Bytes of texts. For crates above.
 use Rattle.std.proofs.Common.{◌≡◌, ℕ, List, [], ◌∷◌, true, nat_lt, IsUtf8, get_or, false, ◌==◌, sym, ap, ◌∙◌, ◌<◌, ◌≤◌, arith}
 use Rattle.std.proofs.lemmas.Str.{IsUtf8-append, IsUtf8-from_ascii}
 use Rattle.std.proofs.lemmas.Bool.{eqb-false, ltb-true}

@@ -1,4 +1,4 @@
--- Chains without a cycle end.
+-- Chains without a cycle end. For `chains_end`, `owners_share_the_top` and crates above.
 use Rattle.std.proofs.Common.{◌≡◌, ◌≢◌, inl, inr, ℕ, zero, suc, ◌+◌, ◌-◌, ◌<◌, ◌≤◌, List, [], ◌∷◌, length, Bool, true, false, ◌||◌, Option, Some, None, nat_eq, eq-eqb, refl, sym, subst, ap, ◌∙◌, arith}
 use Rattle.std.specs.Prelude.{find}
 use Rattle.std.specs.List.{list_any, range_with_len}

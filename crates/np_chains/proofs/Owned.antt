@@ -1,4 +1,4 @@
--- Things that nothing owns.
+-- Things that nothing owns. For crates above.
 use Rattle.std.proofs.Common.{◌≡◌, ℕ, List, [], ◌∷◌, length, find, Option, None, refl}
 use Rattle.np_chains.proofs.Walks.{chain_none}
 use Rattle.np_chains.specs.Chains.{owns_itself, up}

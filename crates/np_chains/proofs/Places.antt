@@ -1,4 +1,4 @@
--- Tests of all places, one place after another.
+-- Tests of all places, one place after another. For `Chains::first_cycle` and `Chains::over_some`.
 use Rattle.std.proofs.Common.{◌≡◌, ℕ, suc, ◌+◌, ◌<◌, List, [], ◌∷◌, length, map, Bool, true, false, ◌&&◌, ◌||◌, Option, refl, sym, subst, ◌∙◌}
 use Rattle.std.specs.Prelude.{find}
 use Rattle.std.specs.List.{list_any, range_with_len}

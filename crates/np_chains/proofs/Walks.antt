@@ -1,4 +1,4 @@
--- Single steps of walks up a chain.
+-- Single steps of walks up a chain. For `climb`, `comes_back` and 2 more.
 use Rattle.std.proofs.Common.{◌≡◌, ◌≢◌, ◌⊎◌, inl, inr, ℕ, zero, suc, ◌<◌, List, [], ◌∷◌, Bool, true, false, ◌||◌, length, get_or, slice_set, Option, Some, None, refl, sym, subst, ◌∙◌, nat_eq}
 use Rattle.std.specs.List.{list_any}
 use Rattle.std.proofs.Math.Bool.{or_assoc, or-false, or-true}

@@ -1,4 +1,4 @@
--- The first of a list.
+-- The first of a list. For AddressLemmas, BrokenLemmas and 9 more.
 use Rattle.std.proofs.Common.{◌≡◌, ℕ, zero, suc, ◌+◌, ◌<◌, ◌≤◌, List, [], ◌∷◌, ◌++◌, Bool, true, false, Option, Some, None, All, map, option_map, refl, sym, ap, ◌∙◌, inl, inr, arith, ◌⊎◌, add-zero, zero-add, if◌then◌else◌}
 use Rattle.std.specs.Prelude.{filter}
 use Rattle.std.specs.List.{find, range_with_len}

@@ -1,4 +1,4 @@
--- What is found is the first packet that breaks the statement.
+-- What is found is the first packet that breaks the statement. For `the_first_packet_is_found` and crates above.
 use Rattle.std.proofs.Common.{◌≡◌, ℕ, ◌≤◌, nat_le, [], ◌∷◌, Bool, true, false, Option, Some, None, Contains, option_map, refl, sym, ap, subst, ◌∙◌, inl, inr, arith}
 use Rattle.std.proofs.lemmas.Bool.{and_from, and_parts, cases_Bool, cases_lt, le-leb, leb-true, true≢false}
 use Rattle.np_check.specs.Types.{Counterexample, EstateLists, Family, PlaceEnd, PortSpot, Proto, Question, Sctp, Tcp, Udp}

@@ -1,4 +1,4 @@
--- The first packet from addresses to several workloads, workload by workload.
+-- The first packet from addresses to several workloads, workload by workload. For AddressLemmas and OrderLemmas.
 use Rattle.std.proofs.Common.{◌≡◌, ℕ, zero, suc, ◌+◌, ◌^◌, ◌<◌, ◌≤◌, List, [], ◌∷◌, true, false, Option, Some, None, map, refl, sym, ap, ◌∙◌, inl, inr, arith}
 use Rattle.std.specs.Prelude.{filter}
 use Rattle.std.specs.List.{AllByRecursion, range_with_len}

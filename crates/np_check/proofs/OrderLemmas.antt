@@ -1,4 +1,4 @@
--- The first of a list whose items stand in an order.
+-- The first of a list whose items stand in an order. For LeastLemmas.
 use Rattle.std.proofs.Common.{◌≡◌, ℕ, ◌^◌, ◌<◌, nat_lt, List, [], ◌∷◌, Bool, true, false, Option, Some, None, Contains, map, refl, sym, ap, subst, ◌∙◌, inl, inr, arith, if◌then◌else◌}
 use Rattle.std.specs.Prelude.{filter}
 use Rattle.std.specs.List.{AllByRecursion, range_with_len}

@@ -1,4 +1,4 @@
--- The first number of some ranges among those from one to another.
+-- The first number of some ranges among those from one to another. For BrokenLemmas.
 use Rattle.std.proofs.Common.{◌≡◌, ℕ, ◌+◌, ◌<◌, ◌≤◌, List, [], ◌∷◌, Bool, true, false, max, nat_le, ◌||◌, refl, ap, ◌∙◌, inl, inr, arith}
 use Rattle.std.specs.List.{find, range_with_len}
 use Rattle.std.proofs.lemmas.Bool.{cases_lt, le-leb, lt-leb, or_left}

@@ -1,4 +1,4 @@
--- The orders of ends, families and protocols, and lists that stand in one.
+-- The orders of ends, families and protocols, and lists that stand in one. For HoldLemmas, LeastLemmas and 3 more.
 use Rattle.std.proofs.Common.{◌≡◌, ℕ, zero, suc, ◌+◌, ◌<◌, ◌≤◌, nat_le, nat_lt, List, [], ◌∷◌, ◌++◌, Bool, true, false, map, refl, sym, inl, inr, arith}
 use Rattle.std.specs.Prelude.{filter}
 use Rattle.std.specs.List.{AllByRecursion, range_with_len}

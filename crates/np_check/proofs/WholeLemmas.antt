@@ -1,4 +1,4 @@
--- The first packet of all, by workloads and by addresses as sources.
+-- The first packet of all, by workloads and by addresses as sources. For `Checker::check`.
 use Rattle.std.proofs.Common.{◌≡◌, ℕ, Option, None, map, refl, ap, ◌∙◌}
 use Rattle.std.specs.Option.{option_or}
 use Rattle.np_check.specs.Types.{Address, At, Counterexample, Ends, EstateLists, Question, Wanted, Work}

@@ -1,4 +1,4 @@
--- Places by their numbers, with one place more.
+-- Places by their numbers, with one place more. For `blanks` and `groups`.
 use Rattle.std.proofs.Common.{◌≡◌, ◌⊎◌, inl, inr, ℕ, ◌+◌, ◌<◌, List, [], ◌∷◌, ◌++◌, length, map, get_or, Bool, cond, eq-eqb, refl, sym, ap, ◌∙◌, arith, zero-add}
 use Rattle.std.specs.Prelude.{filter, slice_index, slice_index_or, slice_set}
 use Rattle.std.specs.Bool.{◌==◌}

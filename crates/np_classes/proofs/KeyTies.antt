@@ -1,4 +1,4 @@
--- Ties of the keys at places.
+-- Ties of the keys at places. For `ties_of_keys_are_alike`.
 use Rattle.std.proofs.Common.{◌≡◌, ℕ, ◌<◌, List, [], ◌∷◌, length, Bool, true, false, Option, Some, None, Ordering, get_or, refl, ◌∙◌, arith}
 use Rattle.std.specs.Prelude.{slice_get}
 use Rattle.std.specs.Cmp.{IsTotalOrder}

@@ -1,4 +1,4 @@
--- Lists of places, and tests that agree on the items of a list.
+-- Lists of places, and tests that agree on the items of a list. For GroupSteps, Growing and 3 more.
 use Rattle.std.proofs.Common.{◌≡◌, ℕ, ◌+◌, ◌<◌, List, [], ◌∷◌, ◌++◌, length, map, Bool, true, false, cond, ◌&&◌, ◌||◌, All, Some, None, nat_lt, refl, sym, subst, ap, ◌∙◌, arith, zero-add}
 use Rattle.std.specs.Prelude.{filter, position}
 use Rattle.std.specs.List.{list_any, position_from, position_or_len, range_with_len}

@@ -1,4 +1,4 @@
--- What is noted of one key more.
+-- What is noted of one key more. For `Classes::of` and `note`.
 use Rattle.std.proofs.Common.{◌≡◌, ℕ, ◌+◌, ◌<◌, ◌≤◌, List, [], ◌∷◌, ◌++◌, length, map, get_or, Bool, true, false, cond, Option, Some, None, Ordering, refl, sym, ap, ◌∙◌}
 use Rattle.std.specs.Prelude.{position, slice_get}
 use Rattle.std.specs.BTreeMap.{BTreeMap, get}

@@ -1,4 +1,4 @@
--- Classes by a relation of places.
+-- Classes by a relation of places. For `agreeing_relations_have_the_same_classes`, `alike_places_have_one_class` and 3 more.
 use Rattle.std.proofs.Common.{◌≡◌, ℕ, zero, suc, ◌<◌, ◌≤◌, length, get_or, Bool, true, false, not, ◌&&◌, Some, All, refl, sym, subst, ap, ◌∙◌, arith, eq-eqb}
 use Rattle.std.specs.Prelude.{filter, slice_get}
 use Rattle.std.specs.Bool.{◌==◌}

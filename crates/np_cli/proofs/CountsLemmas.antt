@@ -1,4 +1,4 @@
--- How many rules a run looks at.
+-- How many rules a run looks at. For `run_job` and `run`.
 use Rattle.std.proofs.Common.{◌≡◌, ℕ, ◌≤◌, List, Option, None, Some, arith, subst}
 use Rattle.np_cli.specs.Counts.{Counted, RoseAtMost, most_steps, steps_in}
 use Rattle.np_cli.specs.Runs.{ran}

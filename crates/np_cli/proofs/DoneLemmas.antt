@@ -1,4 +1,4 @@
--- What is known of a run whose report was written whole.
+-- What is known of a run whose report was written whole. For HeadlineLemmas and SampleLemmas.
 use Rattle.std.proofs.Common.{◌≡◌, ℕ, List, Option, None, Some, Result, Ok, Err, refl, subst, ap, ◌∙◌}
 use Rattle.np_cli.proofs.PromisesLemmas.{one_job}
 use Rattle.np_cli.proofs.RunsLemmas.{output-fits}

@@ -1,4 +1,4 @@
--- What reports say, from what was written of them.
+-- What reports say, from what was written of them. For `np_main`.
 use Rattle.std.proofs.Common.{◌≡◌, ℕ, List, Bool, true, false, Option, Some, None, Result, Ok, Err, refl, sym, subst, ◌∙◌}
 use Rattle.np_cli.specs.Types.{CannotRead, CannotWrite, Check, Done, Ending, EstateLists, Evaluate, Explain, Exposure, Failure, Fault, Flatten, Job, List as ListJob, NoMemory, Refused, ReportNotes, Sample, Status, TooLarge, Unused, Usage, Violated}
 use Rattle.np_cli.proofs.DoneLemmas.{written-told}

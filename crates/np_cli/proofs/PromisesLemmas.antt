@@ -1,4 +1,4 @@
--- What follows from why a run ends as it does.
+-- What follows from why a run ends as it does. For `np_main`.
 use Rattle.std.proofs.Common.{◌≡◌, ℕ, List, Option, Some, None, is_some, true, Result, Ok, Err, sym, subst, inl, inr, arith}
 use Rattle.std.specs.Io.KnownBytes.{append_known}
 use Rattle.std.specs.Prelude.{◌⊎◌, Contains, IsErrAnd}

@@ -1,4 +1,4 @@
--- A sample, and the rows of its table as they are counted.
+-- A sample, and the rows of its table as they are counted. For `answer` and `np_main`.
 use Rattle.std.proofs.Common.{◌≡◌, ℕ, ◌≤◌, List, [], ◌∷◌, None, Some, Result, Ok, Err, refl, ap, sym, subst}
 use Rattle.std.proofs.lemmas.Bool.{both_ways}
 use Rattle.np_cli.proofs.DoneLemmas.{done-told}

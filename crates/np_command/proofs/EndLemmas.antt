@@ -1,4 +1,4 @@
--- Ends that words name.
+-- Ends that words name. For crates above.
 use Rattle.std.proofs.Common.{◌≡◌, ℕ, List, [], Some, ◌<◌, length, get_or, None}
 use Rattle.std.proofs.lemmas.List.Quantifiers.{position-Some}
 use Rattle.std.specs.Str.{bytes_eq}

@@ -1,4 +1,4 @@
--- What small inputs say is what they are read as.
+-- What small inputs say is what they are read as. For crates above.
 use Rattle.std.proofs.Common.{◌≡◌, Bool, true, false, Result, Ok, Err, refl}
 use Rattle.std.specs.Prelude.{nat_le}
 use Rattle.np_command.specs.Inputs.{small_estate, small_reading}

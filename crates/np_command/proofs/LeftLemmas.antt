@@ -1,4 +1,4 @@
--- Writing the rows of a table one after another.
+-- Writing the rows of a table one after another. For PuttingLemmas and crates above.
 use Rattle.std.proofs.Common.{◌≡◌, ℕ, List, [], ◌++◌, Option, Ok, Err, refl, sym, subst, ◌∙◌, append-nil}
 use Rattle.std.specs.Io.KnownBytes.{append_known}
 use Rattle.np_io.specs.Counts.{Rose}

@@ -1,4 +1,4 @@
--- Putting texts one after another behind those that are held.
+-- Putting texts one after another behind those that are held. For crates above.
 use Rattle.std.proofs.Common.{◌≡◌, ◌<◌, ◌≤◌, ◌+◌, ℕ, suc, List, [], ◌∷◌, ◌++◌, length, drop, get_or, flat_map, Option, Err, arith, refl, ap, subst, sym, ◌∙◌, append-nil}
 use Rattle.std.proofs.Math.Seq.{drop-cons}
 use Rattle.std.proofs.lemmas.List.{drop_all}

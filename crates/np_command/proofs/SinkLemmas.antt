@@ -1,4 +1,4 @@
--- A sink that was let alone took less than all of anything.
+-- A sink that was let alone took less than all of anything. For WroteLemmas and crates above.
 use Rattle.std.proofs.Common.{ℕ, List, Option, sym, subst}
 use Rattle.np_io.specs.Taken.{TookLess}
 use Rattle.np_io.proofs.TakenLemmas.{TookLess-none}

@@ -1,4 +1,4 @@
--- What is due for all rows of a table is within what a list may count.
+-- What is due for all rows of a table is within what a list may count. For crates above.
 use Rattle.std.proofs.Common.{◌≡◌, ℕ, ◌+◌, ◌*◌, ◌≤◌, length, arith, refl, sym, subst, [], ◌∷◌, List, Option, None, Some}
 use Rattle.std.proofs.Math.Nat.{mul-le-mul_left, mul-le-mul_right}
 use Rattle.np_command.specs.TableSteps.{list_steps}

@@ -1,4 +1,4 @@
--- What was written of a reply.
+-- What was written of a reply. For crates above.
 use Rattle.std.proofs.Common.{◌≡◌, ℕ, List, Result, Ok, Err, ap, subst, sym, ◌∙◌}
 use Rattle.np_command.proofs.SinkLemmas.{TookLess-kept}
 use Rattle.np_command.specs.Prints.{text_in, Wrote}

@@ -1,4 +1,4 @@
--- The packet that is found breaks the statement of its line, as the line names its ends.
+-- The packet that is found breaks the statement of its line, as the line names its ends. For PromiseLemmas.
 use Rattle.std.proofs.Common.{◌≡◌, List, not, Contains, Ok, sym, ap, subst}
 use Rattle.std.proofs.lemmas.Bool.{and_from, and_parts, not-true}
 use Rattle.std.proofs.lemmas.List.Elements.{All-contains}

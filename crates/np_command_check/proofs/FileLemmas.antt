@@ -1,4 +1,4 @@
--- The statements that are read of a file are those of its lines.
+-- The statements that are read of a file are those of its lines. For OneListLemmas and PromiseLemmas.
 use Rattle.std.proofs.Common.{◌≡◌, ◌≢◌, ◌⊎◌, ℕ, zero, suc, ◌+◌, ◌<◌, ◌≤◌, List, [], ◌∷◌, ◌++◌, Bool, true, false, Option, Some, None, Result, Ok, Err, option_to_list, arith, refl, sym, ap, subst}
 use Rattle.std.proofs.Common.{◌∙◌, inl, inr}
 use Rattle.std.specs.Prelude.{All, AllPairs, Contains}

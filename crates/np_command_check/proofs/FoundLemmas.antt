@@ -1,4 +1,4 @@
--- What is said of the statements of a file, by what is found of its lines.
+-- What is said of the statements of a file, by what is found of its lines. For `check_file`.
 use Rattle.std.proofs.Common.{◌≡◌, ℕ, List, Option, Result, Ok, Err, length, ap, ◌∙◌}
 use Rattle.std.specs.Prelude.{is_none}
 use Rattle.np_command.proofs.SinkLemmas.{TookLess-kept}

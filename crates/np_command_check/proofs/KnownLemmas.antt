@@ -1,4 +1,4 @@
--- Which ends of statements are found.
+-- Which ends of statements are found. For BrokenLemmas and PromiseLemmas.
 use Rattle.std.proofs.Common.{◌≡◌, ℕ, ◌<◌, List, [], ◌∷◌, Option, Some, None, Result, Ok, Err, All, Contains, length, refl, sym, ap, subst, ◌∙◌, arith}
 use Rattle.std.proofs.lemmas.List.Elements.{All-cons, All-nil}
 use Rattle.np_command_check.specs.Types.{Addresses, AskedLine, Block, EndForm, Ends, EstateLists, Namespace, Pods, StatementLine}

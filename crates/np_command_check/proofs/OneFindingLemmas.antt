@@ -1,4 +1,4 @@
--- What is found of a file is one thing.
+-- What is found of a file is one thing. For `one_finding_says_what_holds`.
 use Rattle.std.proofs.Common.{◌≡◌, ℕ, List, [], ◌∷◌, ◌++◌, All, refl, sym, ap, subst, ◌∙◌, arith}
 use Rattle.std.proofs.lemmas.List.Elements.{All-contains, All-head, All-tail, Contains-append_right}
 use Rattle.np_check.specs.Counters.{allows_between}

@@ -1,4 +1,4 @@
--- A statement has one first packet that breaks it.
+-- A statement has one first packet that breaks it. For OneFindingLemmas.
 use Rattle.std.proofs.Common.{◌≡◌, ℕ, nat_lt, false, refl, sym, ap, arith}
 use Rattle.std.proofs.lemmas.Bool.{true≢false}
 use Rattle.np_addr.specs.declared.address.Address.{Address}

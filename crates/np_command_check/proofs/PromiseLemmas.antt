@@ -1,4 +1,4 @@
--- Statements of a file, and what is found of them.
+-- Statements of a file, and what is found of them. For crates above.
 use Rattle.std.proofs.Common.{◌≡◌, ℕ, List, Option, None, Some, Result, Ok, Err, codes, decimal, ◌++◌, refl, subst, true, false}
 use Rattle.std.specs.Prelude.{All, drop}
 use Rattle.std.proofs.lemmas.Option.{none-some, same_Some}

@@ -1,4 +1,4 @@
--- Words that name pods, and ends that are not there.
+-- Words that name pods, and ends that are not there. For `evaluate` and `is_word_of`.
 use Rattle.std.proofs.Common.{◌≡◌, ℕ, List, [], ◌∷◌, ◌++◌, Bool, ◌&&◌, ◌==◌, length, take, drop, refl, ap, ◌∙◌, Result, Ok, Err, subst, sym}
 use Rattle.std.specs.Str.{bytes_eq}
 use Rattle.np_base.proofs.Bools.{and-leftwards}

@@ -1,4 +1,4 @@
--- What a report of `evaluate` says, from what was written of it, and why there is none.
+-- What a report of `evaluate` says, from what was written of it, and why there is none. For crates above.
 use Rattle.std.proofs.Common.{◌≡◌, ℕ, List, [], ◌∷◌, Bool, true, false, Option, None, Some, Result, Ok, Err, get_or, if◌then◌else◌, refl, sym, ap, subst, ◌∙◌}
 use Rattle.std.proofs.lemmas.Bool.{and_from, and_parts, eqb-true, false≢true, true≢false}
 use Rattle.std.proofs.lemmas.List.Folds.{list_any_at}

@@ -1,4 +1,4 @@
--- What a report of `explain` says.
+-- What a report of `explain` says. For `ends_between`.
 use Rattle.std.proofs.Common.{◌≡◌, ◌≢◌, ◌<◌, ℕ, List, [], ◌∷◌, cond, length, get_or, Bool, true, false, ◌==◌, Less, Equal, inr, Contains, Option, None, Some, Result, Ok, Err, if◌then◌else◌, arith, refl, sym, ap, subst, ◌∙◌}
 use Rattle.std.proofs.lemmas.Bool.{eq-eqb, false≢true, ne_eqb}
 use Rattle.std.proofs.lemmas.Map.Keys.{Less-from_sorted}

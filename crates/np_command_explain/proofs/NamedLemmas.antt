@@ -1,4 +1,4 @@
--- Words that name pods of workloads, and the numbers of these.
+-- Words that name pods of workloads, and the numbers of these. For ExplainLemmas and PromiseLemmas.
 use Rattle.std.proofs.Common.{◌≡◌, ◌<◌, ℕ, List, [], length, map, get_or, Bool, true, false, Less, inl, inr, Contains, Option, None, Some, Ok, Err, arith, eq-eqb, refl, sym, ap, subst, ◌∙◌}
 use Rattle.std.proofs.lemmas.Bool.{cases_eq, cases_order, false≢true, true≢false}
 use Rattle.std.proofs.lemmas.List.{get_or-map, length-map}

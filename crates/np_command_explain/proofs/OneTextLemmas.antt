@@ -1,4 +1,4 @@
--- Explanations of the same ends have one text.
+-- Explanations of the same ends have one text. For `one_text_says_what_decides`.
 use Rattle.std.proofs.Common.{◌≡◌, ℕ, List, [], ◌∷◌, Contains, Option, Some, None, filter, refl, sym, subst, ◌∙◌, arith}
 use Rattle.np_addr.specs.Addresses.{family_of}
 use Rattle.np_command_explain.specs.Types.{Egress, End, EndWord, EstateLists, Explanation, Family, Four, Ingress, Shown, Six}

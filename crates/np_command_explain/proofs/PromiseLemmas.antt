@@ -1,4 +1,4 @@
--- What a report of `explain` says, from what was written of it, and why there is none.
+-- What a report of `explain` says, from what was written of it, and why there is none. For crates above.
 use Rattle.std.proofs.Common.{◌≡◌, ℕ, List, Bool, true, false, None, Result, Ok, Err, Some, refl, if◌then◌else◌}
 use Rattle.np_command_explain.specs.Types.{AskedEnd, Ends, EndWord, EstateLists, Fault, SameEnd}
 use Rattle.np_command.specs.Ends.{end_text}

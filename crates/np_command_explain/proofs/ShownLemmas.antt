@@ -1,4 +1,4 @@
--- The text of what decides between two ends, piece by piece.
+-- The text of what decides between two ends, piece by piece. For `put_shown`, `put_side` and `write_shown`.
 use Rattle.std.proofs.Common.{◌≡◌, ℕ, List, [], ◌++◌, flat_map, Option, refl, subst, append_assoc}
 use Rattle.np_command_explain.specs.Types.{Direction, Egress, Family, Ingress, Part, Shown}
 use Rattle.np_command.proofs.PuttingLemmas.{HasLeft-held}

@@ -1,4 +1,4 @@
--- What a report of `exposure` says, and its rows side by side.
+-- What a report of `exposure` says, and its rows side by side. For `all_sides`, `exposure_of` and 2 more.
 use Rattle.std.proofs.Common.{◌≡◌, ◌<◌, ◌≤◌, ◌+◌, ℕ, zero, suc, List, [], ◌∷◌, ◌++◌, length, drop, get_or, flat_map, nat_lt, not, ◌==◌, Bool, true, false, ◌||◌, All, Option, None, Some, Ok, arith, refl, sym, ap, subst, ◌∙◌}
 use Rattle.std.proofs.Math.Seq.{drop-cons}
 use Rattle.std.proofs.lemmas.Bool.{ne_eqb}

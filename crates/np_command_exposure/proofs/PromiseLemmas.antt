@@ -1,4 +1,4 @@
--- What a report of `exposure` says, from what was written of it, and why there is none.
+-- What a report of `exposure` says, from what was written of it, and why there is none. For crates above.
 use Rattle.std.proofs.Common.{◌≡◌, ℕ, List, flat_map, Option, None, Some, Result, Ok, Err, refl, ap, subst, ◌∙◌}
 use Rattle.np_command_exposure.specs.Types.{EstateLists, Fault, Format, RowText, ShownSide}
 use Rattle.np_command.specs.Inputs.{lists_of}

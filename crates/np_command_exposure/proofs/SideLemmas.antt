@@ -1,4 +1,4 @@
--- Sides by the numbers of workloads, and the same by the workloads.
+-- Sides by the numbers of workloads, and the same by the workloads. For PromiseLemmas.
 use Rattle.std.proofs.Common.{◌≡◌, ◌≢◌, ◌<◌, ◌≤◌, ◌+◌, ◌-◌, ◌^◌, ℕ, zero, suc, List, [], ◌∷◌, ◌++◌, length, drop}
 use Rattle.std.proofs.Common.{get_or, flat_map, map, min, nat_lt, if◌then◌else◌, Bool, true, false, Contains, Option, None, Some, Result, Ok, Err, arith, refl, sym, ap, subst, ◌∙◌, slice_index}
 use Rattle.std.proofs.Math.Seq.{drop-cons}

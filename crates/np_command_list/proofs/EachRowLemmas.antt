@@ -1,4 +1,4 @@
--- Each row of a cluster is of pods of the estate.
+-- Each row of a cluster is of pods of the estate. For PromiseLemmas.
 use Rattle.std.proofs.Common.{◌≡◌, ◌≢◌, ◌<◌, ◌-◌, ◌^◌, ◌==◌, ◌&&◌, ℕ, List, [], ◌∷◌, map, length, slice_index, Bool, true, false, All, Option, None, if◌then◌else◌, arith, refl, sym, ap, ◌∙◌, inl, inr}
 use Rattle.std.specs.Prelude.{◌↔◌}
 use Rattle.std.specs.Cmp.{ranked}

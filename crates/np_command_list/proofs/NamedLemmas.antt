@@ -1,4 +1,4 @@
--- Workloads by the names that are given.
+-- Workloads by the names that are given. For PromiseLemmas.
 use Rattle.std.proofs.Common.{◌≡◌, ◌≤◌, ℕ, List, [], Bool, true, false, Contains, Option, Some, None, Ok, Err, length, map, get_or, slice_get, nat_lt, position, if◌then◌else◌, arith, refl, sym, ap, subst, ◌∙◌}
 use Rattle.std.specs.List.{position_or_len}
 use Rattle.std.specs.Str.{bytes_eq}

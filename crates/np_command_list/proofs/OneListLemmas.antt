@@ -1,4 +1,5 @@
 -- Lists of rows in order of which each row of the one is told as a row of the other.
+-- For OneTextLemmas, SameRangesLemmas and SameRowsLemmas.
 use Rattle.std.proofs.Common.{◌≡◌, ◌<◌, ◌⊎◌, inl, inr, ℕ, zero, suc, List, [], ◌∷◌, map, length, slice_index_or, Bool, true, false, All, AllPairs, Contains, Option, if◌then◌else◌, arith, refl, sym, ap, subst, ◌∙◌}
 use Rattle.std.specs.Prelude.{filter}
 use Rattle.std.specs.List.{list_any}

@@ -1,4 +1,4 @@
--- Lists of rows that say what passes are told by one text.
+-- Lists of rows that say what passes are told by one text. For `one_text_says_what_passes`.
 use Rattle.std.proofs.Common.{◌≡◌, ℕ, List, ◌++◌, Contains, Option, refl, ap, ◌∙◌}
 use Rattle.np_command_list.specs.Types.{Controller, Egress, EstateLists, Family, Four, Ingress, Query, Report, Row, RowEnd, RowKey, Six, Span, Work}
 use Rattle.np_command_list.proofs.OneListLemmas.{AreAmong, AreToldAlike, told-alike}

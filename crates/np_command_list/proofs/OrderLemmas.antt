@@ -1,4 +1,4 @@
--- The rows of a cluster stand in order.
+-- The rows of a cluster stand in order. For PromiseLemmas.
 use Rattle.std.proofs.Common.{◌≡◌, ◌<◌, ◌≤◌, ◌+◌, ◌-◌, ◌^◌, ℕ, zero, suc, List, [], ◌∷◌, ◌++◌, map, length, get_or, Bool, true, false, All, AllPairs, Option, None, Some, if◌then◌else◌, append_assoc, arith, refl, ap, ◌∙◌}
 use Rattle.std.specs.List.{flat_map, range_with_len}
 use Rattle.std.specs.Cmp.{nat_cmp_total, tied_itself}

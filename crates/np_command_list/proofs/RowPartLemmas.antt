@@ -1,4 +1,5 @@
 -- What a row is made of: connections by which some port passes, a range at whose end what passes changes, and a mark where the families differ.
+-- For EachRowLemmas and SameRowsLemmas.
 use Rattle.std.proofs.Common.{◌≡◌, ◌≢◌, ◌≤◌, ◌+◌, ℕ, List, [], ◌∷◌, ◌++◌, Bool, true, false, nat_le, All, Contains, Option, None, Some, if◌then◌else◌, arith, refl, sym, ap, subst, ◌∙◌}
 use Rattle.std.specs.Prelude.{◌↔◌}
 use Rattle.std.proofs.lemmas.Bool.{and_from, false≢true, le-leb}

@@ -1,4 +1,4 @@
--- Rows that are still to come.
+-- Rows that are still to come. For `write_rows`.
 use Rattle.std.proofs.Common.{◌≡◌, ℕ, Bool, true, false, ◌||◌, if◌then◌else◌, List, [], ◌∷◌, ◌++◌, Option, refl, sym, ap, subst, ◌∙◌}
 use Rattle.std.proofs.Math.Bool.{or-false, or-true}
 use Rattle.np_command.proofs.LeftLemmas.{HasLeft, HasLeft-last}

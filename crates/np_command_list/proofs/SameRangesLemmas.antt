@@ -1,4 +1,4 @@
--- Two lists of rows that say what passes have the same rows of ranges of addresses.
+-- Two lists of rows that say what passes have the same rows of ranges of addresses. For OneTextLemmas.
 use Rattle.std.proofs.Common.{◌≡◌, ◌≤◌, ◌+◌, ◌-◌, inl, inr, ℕ, List, [], ◌∷◌, Bool, true, ◌&&◌, nat_le, Contains, Option, arith, eq-eqb, refl, sym, ap, subst, ◌∙◌}
 use Rattle.std.proofs.lemmas.Bool.{and_from, and_parts, cases_lt, false≢true, le-leb, leb-true}
 use Rattle.std.proofs.Math.Bool.{and-true}

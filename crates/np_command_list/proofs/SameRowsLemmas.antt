@@ -1,4 +1,4 @@
--- Two lists of rows that say what passes have the same rows.
+-- Two lists of rows that say what passes have the same rows. For OneTextLemmas and SameRangesLemmas.
 use Rattle.std.proofs.Common.{◌≡◌, ◌≢◌, ℕ, List, [], ◌∷◌, Bool, true, ◌&&◌, Contains, Option, None, Some, arith, eq-eqb, refl, sym, ap, subst, ◌∙◌}
 use Rattle.std.proofs.lemmas.Bool.{and_from, and_parts, false≢true}
 use Rattle.std.proofs.lemmas.List.Elements.{All-contains}

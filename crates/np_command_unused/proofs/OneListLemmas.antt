@@ -1,4 +1,4 @@
--- Lists of rules that decide nothing are one list.
+-- Lists of rules that decide nothing are one list. For `one_list_of_rules_decides_nothing`.
 use Rattle.std.proofs.Common.{◌≡◌, ℕ, List, Contains, flat_map, ap, subst, ◌∙◌, arith}
 use Rattle.np_addr.proofs.SameLists.{same_elements_same_lists}
 use Rattle.np_command.specs.Sinks.{SinkTrace}

@@ -1,4 +1,4 @@
--- Rules that decide nothing, as they are written.
+-- Rules that decide nothing, as they are written. For `unused` and crates above.
 use Rattle.std.specs.Prelude.{All, Contains}
 use Rattle.std.proofs.lemmas.List.Elements.{All-contains_itself, All-weaker}
 use Rattle.np_model.specs.declared.lists.EstateLists.{EstateLists}

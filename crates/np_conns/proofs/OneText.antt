@@ -1,4 +1,4 @@
--- The text of ascending runs tells the runs.
+-- The text of ascending runs tells the runs. For `one_text_has_one_set` and crates above.
 use Rattle.std.proofs.Common.{◌≡◌, ℕ, List, [], ◌∷◌, ◌++◌, Bool, true, false, ◌&&◌, eqb, length, get_or, drop, map, codes, decimal, refl, sym, ◌∙◌, ap, arith, inl, inr}
 use Rattle.std.proofs.lemmas.Bool.{and_parts, cases_Bool, cond-true, cond-false, eqb-true, false≢true}
 use Rattle.std.proofs.lemmas.Fmt.{decimal_injective}

@@ -1,4 +1,4 @@
--- The three forms of a printed text, and the spots that each has.
+-- The three forms of a printed text, and the spots that each has. For `read_leniently`.
 use Rattle.std.proofs.Common.{◌≡◌, ℕ, ◌≤◌, length, length-append, List, [], ◌∷◌, ◌++◌, true, false, ◌&&◌, ◌||◌, eqb, nat_le, get_or, map, codes, refl, sym, ◌∙◌, ap, subst, arith, inl, inr}
 use Rattle.std.proofs.lemmas.Bool.{cases_Bool, cond-true, cond-false, false≢true}
 use Rattle.std.proofs.lemmas.List.Folds.{list_any-append, flat_map-map}

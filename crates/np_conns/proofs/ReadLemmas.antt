@@ -1,4 +1,4 @@
--- Reading piece by piece what was printed piece by piece.
+-- Reading piece by piece what was printed piece by piece. For `add_part`, `read_parts` and `read_runs`.
 use Rattle.std.proofs.Common.{◌≡◌, ℕ, zero, suc, ◌+◌, ◌<◌, ◌≤◌, List, [], ◌∷◌, ◌++◌, Bool, true, ◌||◌, eqb, length, get_or, take, drop, map, codes, Option, Some, None, unwrap_or, MatchOption, inl, inr, ◌⊎◌, sym, ◌∙◌, ap, arith}
 use Rattle.std.proofs.lemmas.Bool.{false≢true}
 use Rattle.std.proofs.lemmas.List.{get_or-map, length-map, take_all, take_more}

@@ -1,4 +1,4 @@
--- The runs of a test: the one ascending list of ranges of the ports that pass.
+-- The runs of a test: the one ascending list of ranges of the ports that pass. For `runs_are_the_ports_that_pass` and crates above.
 use Rattle.std.proofs.Common.{◌≡◌, ℕ, zero, suc, ◌+◌, ◌<◌, ◌≤◌, List, [], ◌∷◌, Bool, true, false, ◌&&◌, ◌||◌, eqb, leb, refl, sym, ◌∙◌, ap, arith, inl, inr}
 use Rattle.std.proofs.lemmas.Bool.{and_from, or_left, le-leb, eqb-true, eqb-false, cond_both, cases_lt}
 use Rattle.np_conns.specs.Types.{Range}

@@ -1,4 +1,4 @@
--- Where printed texts are cut: at bytes that stand in none of the parts between them.
+-- Where printed texts are cut: at bytes that stand in none of the parts between them. For `read_run` and crates above.
 use Rattle.std.proofs.Common.{◌≡◌, ℕ, zero, suc, ◌<◌, ◌≤◌, List, [], ◌∷◌, ◌++◌, Bool, true, false, not, ◌&&◌, eqb, length, get_or, Option, Some, None, refl, sym, ◌∙◌, ap, arith, decimal, unwrap_or}
 use Rattle.std.proofs.Common.{inl, inr, lit<, codes, append_assoc, append-nil, subst, map}
 use Rattle.std.proofs.lemmas.Bool.{and_parts, and_from, not-true, not_from_false, ne_eqb, eqb-false, cond-true, cond-false, eq-eqb, cases_Bool, eqb-true, cond_both}

@@ -1,4 +1,4 @@
--- The text of connections, as it is printed part by part.
+-- The text of connections, as it is printed part by part. For `text_of_runs`.
 use Rattle.std.proofs.Common.{◌≡◌, ℕ, List, [], ◌∷◌, ◌++◌, false, ◌&&◌, eqb, length, sym, ◌∙◌, append_assoc, append-nil}
 use Rattle.std.proofs.lemmas.Bool.{cond-false}
 use Rattle.np_conns.specs.Types.{Range, Sctp, Tcp, Udp}

@@ -1,4 +1,4 @@
--- The explanation of two ends: its connections, and when two are alike.
+-- The explanation of two ends: its connections, and when two are alike. For `explain_sides`, `explanations_are_right` and 3 more.
 use Rattle.std.proofs.Common.{◌≡◌, ◌↔◌, IsTrue, List, [], ◌∷◌, Bool, true, false, ◌&&◌, ◌||◌, MatchBool, not, filter, map, refl, subst, sym, ap, ap₂, ◌∙◌, ℕ, ◌==◌}
 use Rattle.std.specs.Bool.{Decides}
 use Rattle.std.specs.List.{list_any}

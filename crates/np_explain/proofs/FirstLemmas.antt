@@ -1,4 +1,4 @@
--- The least spot of a set.
+-- The least spot of a set. For PartLemmas.
 use Rattle.std.proofs.Common.{◌≡◌, ℕ, ◌+◌, ◌*◌, ◌≤◌, List, [], ◌∷◌, Bool, true, ◌||◌, refl, ap, ◌∙◌, arith}
 use Rattle.std.proofs.lemmas.Bool.{and_parts, leb-true, false≢true}
 use Rattle.np_base.proofs.Ranges.{is_within-inside}

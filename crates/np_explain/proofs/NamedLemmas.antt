@@ -1,4 +1,5 @@
 -- What decides at an end is well named, where the policies are well formed.
+-- For `deciders_of_read_policies_are_well_named` and `parts_have_texts_of_their_own`.
 use Rattle.std.proofs.Common.{◌≡◌, ◌≢◌, ℕ, ◌+◌, ◌<◌, ◌≤◌, ◌^◌, List, [], ◌∷◌, ◌++◌, length, map, filter, find, Bool, true, false, not, ◌||◌, ◌==◌, codes, Option, Some, None, All, AllPairs, unwrap_or}
 use Rattle.std.proofs.Common.{refl, sym, ◌∙◌, subst, arith, if◌then◌else◌}
 use Rattle.std.specs.List.{enumerate_from, flat_map, list_all}

@@ -1,4 +1,4 @@
--- Something decides at each pod.
+-- Something decides at each pod. For `only_addresses_have_no_side`.
 use Rattle.std.proofs.Common.{◌≡◌, ◌↔◌, ℕ, List, Bool, true, false, IsTrue, Option, Some, None, refl, sym, ap, ◌∙◌, if◌then◌else◌}
 use Rattle.std.proofs.lemmas.Bool.{false≢true}
 use Rattle.np_explain.specs.Types.{Action, Allow, Decider, Deny, Direction, EstateLists, Pass, RuleName}

@@ -1,4 +1,5 @@
 -- One list of parts is right, and what the right one says of each spot.
+-- For `both_sides_give_the_verdict`, `each_spot_is_in_one_part` and 3 more.
 use Rattle.std.proofs.Common.{◌≡◌, ◌⊎◌, ◌↔◌, IsTrue, List, [], ◌∷◌, Bool, true, false, ◌&&◌, ◌||◌, filter, map, All, AllPairs, refl, sym, ap, ◌∙◌, subst, arith, inl, inr, if◌then◌else◌}
 use Rattle.std.specs.Cmp.{both_ways}
 use Rattle.std.specs.List.{list_any}

@@ -1,4 +1,4 @@
--- The carved sets, named and in order, are the right parts.
+-- The carved sets, named and in order, are the right parts. For `named_parts` and `parts_with`.
 use Rattle.std.proofs.Common.{◌≡◌, ◌≢◌, ◌↔◌, ℕ, ◌<◌, ◌≤◌, List, [], ◌∷◌, ◌++◌, Bool, true, false, ◌||◌, IsTrue, eqb, length, get_or, map, filter, All, AllPairs, refl, sym, ap, append_assoc, ◌∙◌}
 use Rattle.std.proofs.Common.{subst, arith, inl, inr, if◌then◌else◌}
 use Rattle.std.specs.List.{IsDistinct}

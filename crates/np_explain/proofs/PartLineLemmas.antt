@@ -1,4 +1,4 @@
--- The line of a part tells the part.
+-- The line of a part tells the part. For `one_line_has_one_part`.
 use Rattle.std.proofs.Common.{◌≡◌, ℕ, List, [], ◌∷◌, ◌++◌, true, not, eqb, codes, refl, sym, ◌∙◌, ap, subst, arith}
 use Rattle.std.proofs.lemmas.Bool.{and_parts, cond_both, eqb-false, not-true}
 use Rattle.std.specs.List.{AllByRecursion, flat_map}

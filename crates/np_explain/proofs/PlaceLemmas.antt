@@ -1,4 +1,4 @@
--- Places in lists, and lists of placed rules of which no two have one name.
+-- Places in lists, and lists of placed rules of which no two have one name. For MarkLemmas, NamedLemmas and 3 more.
 use Rattle.std.proofs.Common.{◌≡◌, ◌≢◌, ℕ, ◌+◌, ◌<◌, ◌≤◌, List, [], ◌∷◌, length, map, Option, Some, All, AllPairs, sym, ◌∙◌, ap, subst, arith, inl, inr}
 use Rattle.std.specs.List.{enumerate_from, flat_map, slice_get}
 use Rattle.std.specs.Option.{option_map_or}

@@ -1,4 +1,5 @@
 -- The rules of a pod's side: those of NetworkPolicies stand in order, and no two of one tier have one name.
+-- For MarkLemmas, NamedLemmas and 2 more.
 use Rattle.std.proofs.Common.{◌≡◌, ◌≢◌, ℕ, ◌<◌, List, [], ◌∷◌, ◌++◌, Bool, true, false, not, codes, nat_lt, find, map, Some, None, Option, All, AllPairs, Ordering, Less, Equal, Greater, refl, sym}
 use Rattle.std.proofs.Common.{◌∙◌, ap, arith, unwrap_or, if◌then◌else◌}
 use Rattle.std.specs.Cmp.Lexicographic.{slice_cmp}

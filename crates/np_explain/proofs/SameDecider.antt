@@ -1,4 +1,4 @@
--- The test of deciders tells whether they are equal.
+-- The test of deciders tells whether they are equal. For ExplanationLemmas, RightPartsLemmas and crates above.
 use mathlib.Core.Bool.{beq}
 use Rattle.std.proofs.Common.{◌≡◌, ℕ, List, ◌==◌, Option, None, Some, refl, ap, ◌∙◌}
 use Rattle.std.proofs.lemmas.Bool.{false≢true}

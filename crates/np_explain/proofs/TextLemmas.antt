@@ -1,4 +1,4 @@
--- A text of what decides belongs to one decider.
+-- A text of what decides belongs to one decider. For `one_text_has_one_decider`.
 use Rattle.std.proofs.Common.{◌≡◌, ℕ, ◌+◌, ◌*◌, ◌<◌, ◌^◌, List, [], ◌∷◌, ◌++◌, length, flat_map, get_or, Bool, true, false, not, ◌&&◌, ◌==◌, nat_lt, codes, decimal, Option, Some, None, is_some, refl}
 use Rattle.std.proofs.Common.{sym, ap, ◌∙◌, append_assoc, arith}
 use Rattle.std.specs.List.{list_all}

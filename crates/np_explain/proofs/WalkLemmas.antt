@@ -1,4 +1,4 @@
--- The mark of a spot stands for what decides it, whatever the spots are.
+-- The mark of a spot stands for what decides it, whatever the spots are. For `parts_with` and crates above.
 use Rattle.std.proofs.Common.{◌≡◌, ℕ, ◌+◌, List, [], ◌∷◌, Bool, true, false, find, Option, Some, None, refl, sym, ap, ◌∙◌, subst, if◌then◌else◌}
 use Rattle.std.specs.List.{enumerate_from, position_from, slice_get}
 use Rattle.std.specs.Option.{option_map, option_map_or}

@@ -1,4 +1,4 @@
--- One part of everything.
+-- One part of everything. For `everything`.
 use Rattle.std.proofs.Common.{◌≡◌, ◌↔◌, IsTrue, Bool, true, false, [], ◌∷◌, ◌||◌, ap, ◌∙◌, refl, arith}
 use Rattle.std.proofs.lemmas.List.Elements.{All-cons, All-nil}
 use Rattle.np_conns.specs.Conns.{Conns, IsConns, has_spot, is_spot}

@@ -1,4 +1,4 @@
--- Pods that policies select alike, with the same named ports, say the same to each hypothetical pod.
+-- Pods that policies select alike, with the same named ports, say the same to each hypothetical pod. For WorkloadLemmas.
 use Rattle.std.proofs.Common.{◌≡◌, ℕ, List, [], ◌∷◌, ◌++◌, map, filter, find, ◌&&◌, ◌||◌, Option, Some, None, is_some, refl, ap, ◌∙◌, if◌then◌else◌}
 use Rattle.std.specs.List.{AllByRecursion, enumerate_from, flat_map, list_any}
 use Rattle.std.specs.Str.{bytes_eq}

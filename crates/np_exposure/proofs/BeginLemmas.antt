@@ -1,4 +1,4 @@
--- The choices at first are those of nothing assumed.
+-- The choices at first are those of nothing assumed. For `exposure` and `rows_of_mentions`.
 use Rattle.std.proofs.Common.{◌≡◌, ℕ, ◌<◌, List, [], ◌∷◌, ◌++◌, length, map, filter, flat_map, fold, Bool, true, false, not, cond, ◌||◌, Option, Some, None, is_some, codes, refl, sym, ap, ◌∙◌, subst}
 use Rattle.std.proofs.Common.{inl, inr, ◌⊎◌, arith, if◌then◌else◌}
 use Rattle.std.specs.List.{AllByRecursion, list_all, list_any}

@@ -1,4 +1,4 @@
--- Strangers that meet the same mentioned requirements have one exposure.
+-- Strangers that meet the same mentioned requirements have one exposure. For `alike_strangers_have_one_exposure`.
 use Rattle.std.proofs.Common.{◌≡◌, ℕ, List, [], ◌∷◌, ◌++◌, map, flat_map, true, ◌&&◌, Option, Some, None, is_some, unwrap_or, codes, refl, sym, ap, ◌∙◌, if◌then◌else◌}
 use Rattle.std.specs.List.{AllByRecursion, list_all, list_any}
 use Rattle.std.specs.Str.{bytes_eq}

@@ -1,4 +1,4 @@
--- Rows that wait.
+-- Rows that wait. For `all_joined`.
 use Rattle.std.proofs.Common.{List, [], ◌∷◌, ◌++◌, refl, sym, subst}
 use Rattle.np_exposure.specs.Types.{ExposureRow, Pending}
 use Rattle.np_exposure.specs.steps.Walks.{Fills, IsJoinedBy}

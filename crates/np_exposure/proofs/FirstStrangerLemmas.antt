@@ -1,4 +1,4 @@
--- The hypothetical pod of the first choices has labels among the choices.
+-- The hypothetical pod of the first choices has labels among the choices. For LeftLemmas and PossibleLemmas.
 use Rattle.std.proofs.Common.{◌≡◌, ℕ, List, [], ◌∷◌, ◌++◌, flat_map, Bool, true, false, not, cond, ◌||◌, Option, Some, None, is_some, codes, refl, sym, ap, ◌∙◌, subst}
 use Rattle.std.specs.List.{AllByRecursion, list_all, list_any}
 use Rattle.std.specs.Option.{option_or}

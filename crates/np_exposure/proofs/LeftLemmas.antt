@@ -1,4 +1,5 @@
 -- The choices that are left by what is assumed are those of the walk, and so the function gives the rows.
+-- For `exposure`, `rows_can_be_told` and crates above.
 use Rattle.std.proofs.Common.{◌≡◌, ℕ, List, [], ◌∷◌, map, filter, Bool, true, false, cond, ◌&&◌, ◌||◌, Option, refl, sym, ap, ◌∙◌, subst}
 use Rattle.std.specs.List.{list_any}
 use Rattle.np_conns.specs.ConnsText.{conns_of}

@@ -1,4 +1,4 @@
--- What holds of one of the items of a list.
+-- What holds of one of the items of a list. For BeginLemmas, FewLemmas and 3 more.
 use Rattle.std.proofs.Common.{◌≡◌, List, [], ◌∷◌, Bool, true, false, cond, ◌||◌, filter, refl, sym, ap, ◌∙◌, inl, inr, subst}
 use Rattle.std.specs.List.{AllByRecursion, list_all, list_any}
 use Rattle.std.proofs.lemmas.Bool.{and_parts, and_from}

@@ -1,4 +1,4 @@
--- The mentions of the rules that speak of a pod, policy by policy.
+-- The mentions of the rules that speak of a pod, policy by policy. For `add_admin_policies`, `add_baseline` and 2 more.
 use Rattle.std.proofs.Common.{◌≡◌, ℕ, ◌+◌, List, [], ◌∷◌, ◌++◌, Bool, true, false, Some, map, refl, sym, ap, ◌∙◌, if◌then◌else◌, unwrap_or}
 use Rattle.std.proofs.lemmas.List.Sums.{fold-append}
 use Rattle.std.proofs.lemmas.List.Concat.{flat_map-append}

@@ -1,4 +1,4 @@
--- Strangers that peers match which speak of one namespace by its name.
+-- Strangers that peers match which speak of one namespace by its name. For `AskedRule::reaches`.
 use Rattle.std.proofs.Common.{◌≡◌, ℕ, List, Bool, true, false, refl, sym, ◌∙◌}
 use Rattle.std.specs.Str.{bytes_eq}
 use Rattle.std.specs.Cmp.Lexicographic.{bytes_decides}

@@ -1,4 +1,4 @@
--- A text of requirements belongs to one list of them.
+-- A text of requirements belongs to one list of them. For `one_text_has_one_peer`.
 use Rattle.std.proofs.Common.{◌≡◌, ℕ, List, [], ◌∷◌, ◌++◌, length, flat_map, drop, Bool, true, false, not, ◌&&◌, ◌==◌, codes, refl, sym, ap, ◌∙◌, append_assoc}
 use Rattle.std.specs.List.{list_all}
 use Rattle.std.proofs.lemmas.Bool.{and_parts, false≢true, true≢false, not-true, eqb-false}

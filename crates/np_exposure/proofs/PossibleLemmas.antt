@@ -1,4 +1,4 @@
--- The test of what is assumed tells whether some hypothetical pod meets it.
+-- The test of what is assumed tells whether some hypothetical pod meets it. For `possible_assumptions_are_told`.
 use Rattle.std.proofs.Common.{◌≡◌, List, [], ◌∷◌, ◌++◌, map, Bool, true, false, refl, sym, ap, ◌∙◌, subst, inl, inr, ◌⊎◌}
 use Rattle.std.specs.List.{AllByRecursion, list_all}
 use Rattle.std.proofs.lemmas.Bool.{and_from}

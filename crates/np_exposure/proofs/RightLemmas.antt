@@ -1,4 +1,4 @@
--- Rows say right, once and each for some.
+-- Rows say right, once and each for some. For `each_row_is_first_for_some`, `first_row_tells` and 2 more.
 use Rattle.std.proofs.Common.{◌≡◌, List, [], ◌∷◌, ◌++◌, map, Bool, true, false, not, cond, ◌&&◌, ◌||◌, Option, Some, find, refl, sym, ap, ◌∙◌, subst, codes}
 use Rattle.std.specs.List.{list_any}
 use Rattle.std.proofs.lemmas.Bool.{and_parts, and_from, false≢true, true≢false, not-true, not_from_false}

@@ -1,4 +1,4 @@
--- When requirements and rows are equal.
+-- When requirements and rows are equal. For `LentSame::is_same` and `OpenRowSame::is_same`.
 use Rattle.std.proofs.Common.{◌≡◌, ◌≢◌, ℕ, List, Bool, true, false, MatchBool, reverse, refl, sym, ap, ◌∙◌, subst}
 use Rattle.std.specs.Cmp.Lexicographic.{bytes_decides}
 use Rattle.std.proofs.lemmas.Bool.{and_parts, and_from, false≢true, true≢false}

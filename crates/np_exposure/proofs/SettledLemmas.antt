@@ -1,4 +1,4 @@
--- What is known of each hypothetical pod with labels among the choices.
+-- What is known of each hypothetical pod with labels among the choices. For `KeyChoices::are`, `KeyChoices::meet` and 7 more.
 use Rattle.std.proofs.Common.{◌≡◌, ℕ, zero, suc, ◌+◌, ◌<◌, ◌≤◌, List, [], ◌∷◌, ◌++◌, length, get_or, map, take, filter, Bool, true, false, not, ◌&&◌, ◌||◌}
 use Rattle.std.proofs.Common.{Option, Some, None, IfSome, if◌then◌else◌, ◌⊎◌, refl, sym, ap, ◌∙◌, subst, inl, inr, arith}
 use Rattle.std.specs.List.{AllByRecursion, list_all, list_any}

@@ -1,4 +1,4 @@
--- States of choices, and what a requirement leaves of them.
+-- States of choices, and what a requirement leaves of them. For `KeyChoices::can_be` and `next_step`.
 use Rattle.std.proofs.Common.{◌≡◌, ℕ, List, [], ◌∷◌, map, filter, Bool, true, false, not, cond, ◌&&◌, ◌||◌, Option, Some, None, is_some, refl, sym, ap, ◌∙◌, subst, if◌then◌else◌, IfSome, zero, suc, ◌<◌, length, get_or, arith}
 use Rattle.std.specs.List.{list_all, list_any}
 use Rattle.std.specs.Str.{bytes_eq}

@@ -1,4 +1,4 @@
--- The rows at a requirement, from those behind it.
+-- The rows at a requirement, from those behind it. For `rows_of`.
 use Rattle.std.proofs.Common.{◌≡◌, List, [], ◌∷◌, ◌++◌, Bool, true, false, not, Option, Some, None, sym, subst, length, arith}
 use Rattle.std.proofs.lemmas.Bool.{false≢true, true≢false}
 use Rattle.np_exposure.proofs.FillLemmas.{Fills-last}

@@ -1,4 +1,4 @@
--- Products that stop at a greatest number.
+-- Products that stop at a greatest number. For `patterns_on` and `weight_of`.
 use Rattle.std.proofs.Common.{◌≡◌, ℕ, zero, suc, ◌+◌, ◌*◌, ◌≤◌, ◌<◌, ◌^◌, ◌-◌, List, [], ◌∷◌, ◌++◌, map, min, take, length, get_or, refl, sym, ap, ◌∙◌, inl, inr, arith, lit<}
 use Rattle.std.proofs.Math.Nat.{le-mul_of_pos_right, mul-le-mul_left, mul_assoc, mul_comm, one-le-mul}
 use Rattle.std.proofs.lemmas.Bool.{cases_lt}

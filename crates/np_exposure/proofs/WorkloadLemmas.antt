@@ -1,4 +1,4 @@
--- The pods of a workload have one list of rows.
+-- The pods of a workload have one list of rows. For `workloads_stand_for_their_pods_to_strangers` and crates above.
 use Rattle.std.proofs.Common.{◌≡◌, ◌<◌, ℕ, List, [], ◌∷◌, Some, length, slice_get, sym, ap, subst, ◌∙◌, Option}
 use Rattle.std.specs.Option.{option_map_or}
 use Rattle.np_labels.specs.Labels.{AgreeOn}

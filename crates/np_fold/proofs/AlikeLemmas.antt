@@ -1,4 +1,4 @@
--- The questions about two pods, and what they say of pods at places.
+-- The questions about two pods, and what they say of pods at places. For `the_five_equalities` and crates above.
 use Rattle.std.proofs.Common.{◌≡◌, ℕ, ◌<◌, List, map, length, slice_get, Bool, true, false, ◌==◌, Option, Some, None, All, refl, sym, ap, ◌∙◌}
 use Rattle.std.specs.Bool.{Decides}
 use Rattle.std.specs.Cmp.{Equal-is}

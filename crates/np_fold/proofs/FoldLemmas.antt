@@ -1,4 +1,4 @@
--- Steps of a folding: classes, names and kinds.
+-- Steps of a folding: classes, names and kinds. For `Workloads::of_classes`, `classes_of_pods` and 3 more.
 use Rattle.std.proofs.Common.{◌≡◌, ℕ, zero, suc, ◌+◌, ◌<◌, List, [], ◌∷◌, ◌++◌, map, length, get_or, take, slice_get, Bool, Option, Some, None, All, refl, sym, ap, subst, ◌∙◌}
 use Rattle.std.proofs.lemmas.List.{length-map, map-append, map_more}
 use Rattle.std.proofs.lemmas.List.Elements.{All-get_or}

@@ -1,4 +1,4 @@
--- A key that is among those of the estate is one that a selector in force names.
+-- A key that is among those of the estate is one that a selector in force names. For `each_key_is_named_by_a_selector`.
 use Rattle.std.proofs.Common.{◌≡◌, ℕ, suc, List, [], ◌∷◌, ◌++◌, Option, Some, None, true, inl, inr, refl, sym, ap, ◌∙◌, arith}
 use Rattle.std.specs.Prelude.{◌⊎◌, Contains}
 use Rattle.std.specs.List.{flat_map}

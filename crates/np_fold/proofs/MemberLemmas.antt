@@ -1,4 +1,4 @@
--- Steps of a folding: workloads by name, with their members.
+-- Steps of a folding: workloads by name, with their members. For `Workloads::by_name`, `members_by_name` and `put_last`.
 use Rattle.std.proofs.Common.{◌≡◌, ◌≢◌, ℕ, zero, suc, ◌+◌, ◌<◌, List, [], ◌∷◌, ◌++◌, map, length, get_or, slice_get, false, nat_lt, if◌then◌else◌, Option, Some, None, Less, Equal, All, refl, sym, ap, subst, ◌∙◌, arith}
 use Rattle.std.proofs.lemmas.Bool.{false_from_ne_true}
 use Rattle.std.proofs.lemmas.List.{length-map, map-append}

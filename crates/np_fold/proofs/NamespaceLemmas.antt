@@ -1,4 +1,4 @@
--- Pods of one namespace have the same labels of it.
+-- Pods of one namespace have the same labels of it. For crates above.
 use Rattle.std.proofs.Common.{◌≡◌, ◌<◌, ℕ, List, AllPairs, Option, Some, get_or, sym, ap, subst, inl, inr}
 use Rattle.std.specs.List.{slice_get}
 use Rattle.std.proofs.lemmas.Bool.{cases_order}

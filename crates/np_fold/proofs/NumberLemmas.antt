@@ -1,4 +1,4 @@
--- The numbers of pods and of workloads.
+-- The numbers of pods and of workloads. For FoldLemmas, MemberLemmas and 2 more.
 use Rattle.std.proofs.Common.{◌≡◌, ℕ, ◌^◌, ◌<◌, ◌==◌, ◌&&◌, List, [], ◌∷◌, ◌++◌, map, length, slice_get, Bool, true, Option, Some, refl, sym, ap, subst, ◌∙◌, arith, eq-eqb}
 use Rattle.std.specs.Prelude.{All, codes, filter, slice_index}
 use Rattle.std.specs.Cmp.Lexicographic.{slice_cmp}

@@ -1,4 +1,4 @@
--- Only equal traits tie in their order.
+-- Only equal traits tie in their order. For `only_equal_traits_tie` and crates above.
 use Rattle.std.proofs.Common.{◌≡◌, ◌↔◌, [], ◌∷◌, arith, Ordering, Less, Equal, Greater, refl, sym}
 use Rattle.std.specs.Cmp.{ranked, tied_itself}
 use Rattle.std.specs.Cmp.Lexicographic.{slice_cmp}

@@ -1,4 +1,4 @@
--- Names of top owners.
+-- Names of top owners. For `owner_names_tell_owners_apart`.
 use Rattle.std.proofs.Common.{◌≡◌, ◌↔◌, ℕ, ◌==◌, List, [], ◌∷◌, ◌++◌, true, false, refl, sym, subst, ◌∙◌, append_assoc, eq-eqb}
 use Rattle.std.specs.Prelude.{codes}
 use Rattle.std.specs.List.{list_all, list_any}

@@ -1,4 +1,4 @@
--- The parts of a folding.
+-- The parts of a folding. For `Workloads::of_keys`, `Workloads::of_named` and crates above.
 use Rattle.std.proofs.Common.{◌≡◌, ℕ, ◌^◌, ◌<◌, ◌≤◌, List, [], map, length, Bool, All, refl, sym, ap, subst, ◌∙◌, arith}
 use Rattle.std.proofs.lemmas.List.{length-map}
 use Rattle.std.proofs.lemmas.List.FromFn.{length-map-range_with_len, length-range_with_len}

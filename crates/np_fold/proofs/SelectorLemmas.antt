@@ -1,4 +1,4 @@
--- Labels that a selector does not tell apart.
+-- Labels that a selector does not tell apart. For crates above.
 use Rattle.std.proofs.Common.{◌≡◌, ℕ, List, [], ◌∷◌, map, ◌&&◌, Option, refl, ap, ◌∙◌}
 use Rattle.std.specs.List.{AllByRecursion, list_all}
 use Rattle.np_fold.specs.Keys.{keys_of_selector}

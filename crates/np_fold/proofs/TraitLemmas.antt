@@ -1,4 +1,4 @@
--- Equal traits, and pods that are alike.
+-- Equal traits, and pods that are alike. For `other_traits_tell_kinds_apart` and `traits_tell_pods_apart`.
 use Rattle.std.proofs.Common.{◌≡◌, ◌↔◌, ℕ, List, refl, sym, ap, ◌∙◌}
 use Rattle.std.specs.List.{filter_map}
 use Rattle.std.proofs.lemmas.List.Elements.{All-from_recursion, recursion_from_All}

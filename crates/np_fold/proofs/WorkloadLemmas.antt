@@ -1,4 +1,4 @@
--- What follows of workloads.
+-- What follows of workloads. For `each_pod_has_one_workload`, `kinds_are_those_of_first_pods` and 4 more.
 use Rattle.std.proofs.Common.{◌≡◌, ◌↔◌, ℕ, zero, suc, ◌+◌, ◌^◌, ◌<◌, ◌==◌, List, [], ◌∷◌, map, length, get_or, slice_get, Bool, true, false, cond, Option, Some, None, Less, refl, sym, ap, subst, ◌∙◌, arith}
 use Rattle.std.specs.Prelude.{All, IsSomeAnd, filter}
 use Rattle.std.specs.Cmp.Lexicographic.{slice_cmp}

@@ -1,4 +1,4 @@
--- Reading the inputs of a job one after another.
+-- Reading the inputs of a job one after another. For `read_all` and crates above.
 use Rattle.std.proofs.Common.{◌≡◌, ℕ, zero, suc, ◌+◌, ◌^◌, ◌<◌, ◌≤◌, List, [], ◌∷◌, ◌++◌, length, take, drop, get_or, map, Option, Some, None, is_some, IsSome, true, refl, sym, ap, ◌∙◌, subst, inl}
 use Rattle.std.proofs.Common.{inr, arith, Vec, append_assoc, append-nil, add-zero}
 use Rattle.std.specs.Prelude.{◌⊎◌, Contains}

@@ -1,4 +1,4 @@
--- A source in memory that is given more bytes: in place of those of a name that it holds, or under a new name.
+-- A source in memory that is given more bytes: in place of those of a name that it holds, or under a new name. For `MemInputs::add`.
 use Rattle.std.proofs.Common.{◌≡◌, ◌≢◌, ℕ, zero, suc, ◌+◌, ◌<◌, List, [], ◌∷◌, ◌++◌, Bool, true, false, cond, Option, Some, None, length, set, refl, sym, ap, ◌∙◌, arith, zero-add}
 use Rattle.std.specs.List.{slice_get, slice_index}
 use Rattle.std.specs.Option.{option_map_or}

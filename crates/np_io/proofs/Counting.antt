@@ -1,4 +1,4 @@
--- The counts of a source in memory, before and after a fault.
+-- The counts of a source in memory, before and after a fault. For `MemInputsInputs::begin` and `MemInputsInputs::read`.
 use Rattle.std.proofs.Common.{◌≡◌, ◌≢◌, ℕ, ◌<◌, ◌⊎◌, inl, inr, List, Option, Some, None, length, get_or, set, ◌∙◌, arith, get_or-set_same, get_or-set_other}
 use Rattle.std.specs.List.{slice_index}
 use Rattle.std.specs.Option.{option_map_or}

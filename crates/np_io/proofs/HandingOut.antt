@@ -1,4 +1,4 @@
--- A source in memory hands out the next bytes that are left.
+-- A source in memory hands out the next bytes that are left. For `MemInputsInputs::read`.
 use Rattle.std.proofs.Common.{◌≡◌, ℕ, ◌+◌, List, [], ◌++◌, Option, Some, take, drop, refl, sym, ap, ◌∙◌}
 use Rattle.std.specs.Option.{option_map_or}
 use Rattle.std.proofs.lemmas.List.{take-append-drop, drop-drop}

@@ -1,4 +1,4 @@
--- Where a name stands among those that a source in memory holds, before and after a change.
+-- Where a name stands among those that a source in memory holds, before and after a change. For `MemInputsInputs::begin`.
 use Rattle.std.proofs.Common.{◌≡◌, ℕ, zero, suc, ◌+◌, ◌<◌, List, [], ◌∷◌, ◌++◌, Bool, true, false, cond, Option, Some, None, length, get_or, set, refl, ap, ◌∙◌, arith, add-zero}
 use Rattle.std.specs.List.{position_from, slice_get}
 use Rattle.std.proofs.lemmas.Iterator.Adapters.{position_from-zero}

@@ -1,4 +1,5 @@
 -- What a sink took of bytes that were written one after another, or put behind those that are held.
+-- For `BufferedSink::put` and crates above.
 use Rattle.std.proofs.Common.{◌≡◌, ◌<◌, ℕ, List, [], ◌++◌, length, Option, Some, None, refl, sym, ap, subst, ◌∙◌, append_assoc, append-nil, arith, length-append}
 use Rattle.std.specs.Io.KnownBytes.{append_known}
 use Rattle.np_io.specs.Taken.{TookAllBut, TookFront, TookLess}

@@ -1,4 +1,4 @@
--- A slice that is written piece by piece.
+-- A slice that is written piece by piece. For `write_whole`.
 use Rattle.std.proofs.Common.{◌≡◌, ℕ, ◌+◌, ◌-◌, ◌≤◌, List, ◌++◌, length, take, drop, Option, sym, refl, ap, ◌∙◌, arith}
 use Rattle.std.specs.Io.KnownBytes.{append_known}
 use Rattle.std.proofs.lemmas.List.{take-append-drop, take-take, drop-take, take_rest}

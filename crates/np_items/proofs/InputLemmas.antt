@@ -1,4 +1,4 @@
--- Inputs, and what the code gives of them.
+-- Inputs, and what the code gives of them. For `items_of`, `value_of` and crates above.
 use Rattle.std.proofs.Common.{◌≡◌, ℕ, List, [], ◌∷◌, Some, None, refl, ap}
 use Rattle.std.proofs.lemmas.Bool.{cond_both}
 use Rattle.std.proofs.lemmas.Str.{IsUtf8-from_is_utf8, is_utf8-from_IsUtf8}

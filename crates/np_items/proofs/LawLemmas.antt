@@ -1,4 +1,4 @@
--- What the laws of inputs and items rest on.
+-- What the laws of inputs and items rest on. For `an_object_is_one_item`, `first_refused_input_stands` and `first_refused_item_stands`.
 use Rattle.std.proofs.Common.{◌≡◌, ℕ, ◌+◌, List, [], ◌∷◌, ◌++◌, length, false, Ok, Err, codes, refl, sym, ap, ◌∙◌, add-zero, arith}
 use Rattle.std.proofs.lemmas.Bool.{true≢false, false≢true, and_right, false_from_ne_true}
 use Rattle.std.proofs.lemmas.Slice.Eq.{bytes_eq-Decides}

@@ -1,4 +1,4 @@
--- Readings of one list after another.
+-- Readings of one list after another. For `all_values` and `each_item`.
 use Rattle.std.proofs.Common.{List, ◌++◌, Ok, Err}
 use Rattle.np_items.specs.Readings.{Reading}
 

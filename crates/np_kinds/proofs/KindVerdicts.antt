@@ -1,4 +1,4 @@
--- Packets that the verdict does not tell apart.
+-- Packets that the verdict does not tell apart. For `kinds_give_the_deciders`, `kinds_give_the_rule_counts` and 2 more.
 use Rattle.std.proofs.Common.{◌≡◌, ℕ, ◌+◌, List, ◌++◌, length, ◌&&◌, Option, Some, None, map, filter, is_some, refl, ap, subst, inl, inr, ◌∙◌, if◌then◌else◌}
 use Rattle.std.specs.List.{AllByRecursion, find, flat_map, list_any}
 use Rattle.std.proofs.lemmas.List.Elements.{recursion_from_All}

@@ -1,4 +1,4 @@
--- The pods of workloads.
+-- The pods of workloads. For `first_place`, `first_pod` and crates above.
 use Rattle.std.proofs.Common.{◌≡◌, ◌≢◌, ◌<◌, ◌==◌, ◌&&◌, ℕ, List, [], ◌∷◌, Bool, true, false, Option, Some, None, Contains, length, slice_index_or, slice_get, get_or, if◌then◌else◌}
 use Rattle.std.proofs.Common.{arith, refl, sym, subst, ◌∙◌, ap, eq-eqb, inl, inr}
 use Rattle.std.specs.Option.{option_map_or}

@@ -1,4 +1,4 @@
--- What passes between workloads is what passes between their pods.
+-- What passes between workloads is what passes between their pods. For KindNumbers, ReachLemmas and 2 more.
 use Rattle.std.proofs.Common.{◌≡◌, ◌≢◌, ◌<◌, ℕ, List, [], ◌∷◌, Bool, true, false, Option, Some, None, Contains, length, slice_get, slice_index, if◌then◌else◌, refl, sym, ap, subst, ◌∙◌, inl, inr}
 use Rattle.std.specs.Option.{option_map_or}
 use Rattle.std.specs.Prelude.{IsSomeAnd}

@@ -1,4 +1,4 @@
--- Kinds between which nothing may pass.
+-- Kinds between which nothing may pass. For `KindReach::is_silent`, `KindReach::nothing` and 2 more.
 use Rattle.std.proofs.Common.{◌≡◌, ℕ, zero, suc, List, [], Bool, true, false, ◌&&◌, Some, map, slice_get, slice_index, refl, sym, ap, ◌∙◌, ◌⊎◌, inl, inr}
 use Rattle.std.specs.Option.{option_map}
 use Rattle.std.proofs.lemmas.Bool.{and_left, and_right}

@@ -1,4 +1,4 @@
--- The side of the pod that stands for a workload's kind gives what that of the workload's own pod does.
+-- The side of the pod that stands for a workload's kind gives what that of the workload's own pod does. For crates above.
 use Rattle.std.proofs.Common.{get_or, ◌≡◌, ◌<◌, ℕ, List, false, Some, slice_get, slice_index, sym, ap, subst, ◌∙◌}
 use Rattle.std.proofs.lemmas.Option.{same_Some, slice_get-get_or, slice_get_within}
 use Rattle.np_kinds.specs.Types.{Direction, Egress, EstateLists, Family, Ingress, PortSpot}

@@ -1,4 +1,4 @@
--- Lists of pairs whose keys ascend.
+-- Lists of pairs whose keys ascend. For `Labels::of`, `labels_are_their_values` and 2 more.
 use Rattle.std.proofs.Common.{◌≡◌, ℕ, List, [], ◌∷◌, Bool, true, false, Some, None, fold, refl, sym, ap, subst, ◌∙◌}
 use Rattle.std.specs.declared.cmp.Ordering.{Ordering}
 use Rattle.std.specs.declared.cmp.Ordering.TheVariants.{Less, Equal, Greater}

@@ -1,4 +1,4 @@
--- Values in the order of their bytes, each once.
+-- Values in the order of their bytes, each once. For `Requirement::of`, `values_ascend` and crates above.
 use Rattle.std.proofs.Common.{◌≡◌, ℕ, List, [], ◌∷◌, length, fold, Bool, true, false, ◌||◌, ◌==◌, refl, sym, ap, ◌∙◌}
 use Rattle.std.specs.BTreeSet.{insert_key}
 use Rattle.std.specs.Cmp.Lexicographic.{slice_cmp, bytes_decides}

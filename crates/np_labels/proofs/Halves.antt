@@ -1,4 +1,4 @@
--- A value that is looked up by halves among values that ascend.
+-- A value that is looked up by halves among values that ascend. For `Requirement::lists` and crates above.
 use Rattle.std.proofs.Common.{◌≡◌, ℕ, ◌+◌, List, length, get_or, true, false, inl, inr, Result, Ok, Err, is_ok, refl, sym, ap, ◌∙◌, arith}
 use Rattle.std.specs.Cmp.Lexicographic.{slice_cmp, nat_list_cmp_total}
 use Rattle.std.specs.List.{All}

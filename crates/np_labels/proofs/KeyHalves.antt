@@ -1,4 +1,4 @@
--- The pair of a key, searched by halves among pairs whose keys ascend.
+-- The pair of a key, searched by halves among pairs whose keys ascend. For `find_value`.
 use Rattle.std.proofs.Common.{◌≡◌, ℕ, zero, suc, ◌+◌, ◌<◌, List, [], ◌∷◌, length, get_or, false, inl, inr, Some, None, Ok, Err, refl, sym, ap, ◌∙◌, arith}
 use Rattle.std.specs.Cmp.Lexicographic.{slice_cmp, nat_list_cmp_total, bytes_decides}
 use Rattle.std.specs.List.{AllByRecursion}

@@ -1,4 +1,4 @@
--- Steps of loops over listed values, for sets given as tests.
+-- Steps of loops over listed values, for sets given as tests. For `ValueSet::among`, `insert_all` and `remove_all`.
 use Rattle.std.proofs.Common.{◌≡◌, ℕ, ◌+◌, ◌<◌, List, length, take, get_or, Bool, true, false, not, cond, ◌&&◌, ◌||◌, refl, sym, ap, ◌∙◌}
 use Rattle.std.specs.Ordering.{nat_cmp, is_eq}
 use Rattle.std.specs.Cmp.Lexicographic.{slice_cmp, bytes_decides}

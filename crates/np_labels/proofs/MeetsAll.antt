@@ -1,4 +1,4 @@
--- Requirements met by labels, and requirements that allow what is found at each key.
+-- Requirements met by labels, and requirements that allow what is found at each key. For `demands_of` and `possible`.
 use Rattle.std.proofs.Common.{◌≡◌, ℕ, ◌+◌, ◌<◌, List, [], ◌∷◌, length, take, get_or, Bool, true, false, not, cond, ◌&&◌, ◌||◌, Option, Some, None, MatchOption, IfSome, IfNone, refl, sym, subst, ◌∙◌}
 use Rattle.std.specs.Ordering.{nat_cmp, is_eq}
 use Rattle.std.specs.Cmp.{first_so, second_so}

@@ -1,4 +1,4 @@
--- Lists of pairs, and the entries of a map of texts.
+-- Lists of pairs, and the entries of a map of texts. For `Labels::of`, `labels_have_last_values` and 2 more.
 use Rattle.std.proofs.Common.{◌≡◌, ℕ, List, [], ◌∷◌, ◌++◌, map, fold, reverse, Bool, true, false, cond, Option, Some, None, refl, sym, ap, ◌∙◌}
 use Rattle.std.specs.declared.cmp.Ordering.{Ordering}
 use Rattle.std.specs.declared.cmp.Ordering.TheVariants.{Less, Equal, Greater}

@@ -1,4 +1,4 @@
--- Unused rules change nothing.
+-- Unused rules change nothing. For `unused_rules_change_nothing` and crates above.
 use Rattle.std.proofs.Common.{◌≡◌, ℕ, Bool, true, false, ◌&&◌, ◌==◌, Some, refl, sym, ap, ◌∙◌, subst}
 use Rattle.std.specs.List.{Contains}
 use Rattle.std.proofs.lemmas.Bool.{and_parts, eqb-true, false≢true}

@@ -1,4 +1,4 @@
--- Where the rules that decide stay, a side says the same.
+-- Where the rules that decide stay, a side says the same. For AllowLemmas.
 use Rattle.std.proofs.Common.{◌≡◌, ℕ, ◌<◌, List, [], Bool, true, false, not, map, filter, find, is_some, slice_get, Option, Some, None, refl, sym, ap, ◌∙◌, subst, if◌then◌else◌}
 use Rattle.std.specs.List.{enumerate_from, list_any}
 use Rattle.std.specs.Option.{option_map, option_map_or}

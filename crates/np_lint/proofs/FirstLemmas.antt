@@ -1,4 +1,4 @@
--- The first rules of lists, and of their halves.
+-- The first rules of lists, and of their halves. For `handed_down`, `parts_with_spots` and `rules_with_spots`.
 use Rattle.std.proofs.Common.{◌≡◌, ◌⊎◌, ℕ, zero, suc, ◌+◌, ◌<◌, List, [], ◌∷◌, ◌++◌, Bool, true, false, ◌&&◌, ◌||◌, not, Option, Some, None, is_some, length, get_or, take, refl, sym, ap, ◌∙◌, inl}
 use Rattle.std.proofs.Common.{inr, if◌then◌else◌, add-one, arith, find}
 use Rattle.std.specs.List.{list_any, position_from, slice_get}

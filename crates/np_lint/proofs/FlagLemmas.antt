@@ -1,4 +1,4 @@
--- What setting a flag does to the others.
+-- What setting a flag does to the others. For `Flags::set`.
 use Rattle.std.proofs.Common.{◌≡◌, ◌≢◌, ℕ, zero, suc, ◌<◌, List, [], ◌∷◌, ◌++◌, Bool, true, false, ◌||◌, ◌&&◌, ◌==◌, length, get_or, set, Option, Some, Vec, refl, sym, ap, inl, inr, ◌∙◌, arith}
 use Rattle.std.specs.List.{slice_get}
 use Rattle.std.specs.Option.{option_map_or}

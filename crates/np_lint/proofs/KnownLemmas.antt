@@ -1,4 +1,4 @@
--- What is known after the tiers of a layer were looked at.
+-- What is known after the tiers of a layer were looked at. For `UsedRules::note_layer`.
 use Rattle.std.proofs.Common.{◌≡◌, ℕ, ◌+◌, List, [], ◌∷◌, Bool, true, false, ◌&&◌, not, Option, Some, None, refl, sym, ap, ◌∙◌, if◌then◌else◌, find}
 use Rattle.std.specs.List.{enumerate_from, position_from, slice_get}
 use Rattle.std.specs.Option.{option_and_then, option_map_or}

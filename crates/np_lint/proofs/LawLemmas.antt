@@ -1,4 +1,4 @@
--- Unused rules decide nothing.
+-- Unused rules decide nothing. For `unused_rules_decide_nothing` and crates above.
 use Rattle.std.proofs.Common.{◌≡◌, ◌↔◌, ℕ, zero, suc, ◌<◌, List, [], ◌∷◌, Bool, true, false, not, filter, length, get_or, Option, Some, None, All, refl, sym, ap, ◌∙◌, arith, if◌then◌else◌}
 use Rattle.std.specs.List.{Contains}
 use Rattle.std.specs.Option.{option_map_or}

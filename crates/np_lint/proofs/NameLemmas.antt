@@ -1,4 +1,4 @@
--- The rules that a mark names are those that stand in what decides.
+-- The rules that a mark names are those that stand in what decides. For SearchLemmas.
 use Rattle.std.proofs.Common.{◌≡◌, ℕ, zero, suc, ◌<◌, List, [], ◌∷◌, Bool, true, false, ◌&&◌, ◌==◌, codes, map, Option, Some, None, eq-eqb, refl, sym, ap, ◌∙◌, arith, if◌then◌else◌}
 use Rattle.std.specs.Cmp.{both_ways}
 use Rattle.std.specs.List.{list_all, slice_get}

@@ -1,4 +1,4 @@
--- Used rules stand in what decides a packet between listed ends.
+-- Used rules stand in what decides a packet between listed ends. For AllowLemmas, FindLemmas and LawLemmas.
 use Rattle.std.proofs.Common.{◌≡◌, ℕ, ◌<◌, ◌^◌, List, ◌++◌, Bool, true, false, ◌==◌, not, map, length, All, refl, sym, ap, ◌∙◌, arith}
 use Rattle.std.specs.List.{Contains, list_any, range_with_len}
 use Rattle.std.proofs.lemmas.Bool.{and_from, and_parts, false≢true, not-true}

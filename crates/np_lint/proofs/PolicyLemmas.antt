@@ -1,4 +1,4 @@
--- Rules are told by the names of their policies and their places.
+-- Rules are told by the names of their policies and their places. For NameLemmas.
 use Rattle.std.proofs.Common.{◌≡◌, ◌≢◌, ℕ, zero, suc, ◌<◌, List, [], ◌∷◌, ◌++◌, Bool, true, false, not, ◌==◌, get_or, Some, AllPairs, Ordering, Equal, append_assoc, eq-eqb, refl, sym, ◌∙◌, ap, inl, inr}
 use Rattle.std.specs.Cmp.Lexicographic.{slice_cmp}
 use Rattle.std.specs.List.{list_all, list_any, slice_get}

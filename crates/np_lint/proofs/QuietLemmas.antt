@@ -1,4 +1,5 @@
 -- Of a far end that is out of reach of a side, no rule of a NetworkPolicy or of the baseline decides anything.
+-- For `search_kind` and `search_side`.
 use Rattle.std.proofs.Common.{◌≡◌, ℕ, ◌<◌, List, [], ◌∷◌, Bool, true, false, ◌&&◌, ◌||◌, not, filter, length, slice_get, Option, Some, None, refl, sym, ap, ◌∙◌, subst, arith, if◌then◌else◌}
 use Rattle.std.specs.List.{list_any}
 use Rattle.std.specs.Option.{option_map, option_map_or}

@@ -1,4 +1,4 @@
--- What a layer of a side tells of the rules that are used.
+-- What a layer of a side tells of the rules that are used. For `search_addresses` and `search_kind`.
 use Rattle.std.proofs.Common.{◌≡◌, ℕ, ◌<◌, List, [], ◌∷◌, Bool, true, false, map, refl, sym, ap, ◌∙◌, inl, inr}
 use Rattle.std.specs.Option.{option_map_or}
 use Rattle.std.proofs.lemmas.Bool.{and_from, and_parts}

@@ -1,4 +1,4 @@
--- What is found in a list of which items are taken out.
+-- What is found in a list of which items are taken out. For ChangeLemmas.
 use Rattle.std.proofs.Common.{◌≡◌, List, [], ◌∷◌, Bool, true, false, ◌||◌, map, filter, find, is_some, Option, Some, All, refl, sym, subst, ap, ◌∙◌, if◌then◌else◌}
 use Rattle.std.specs.List.{list_any}
 use Rattle.std.specs.Option.{option_map}

@@ -1,4 +1,4 @@
--- Steps of the search: what was known stays known.
+-- Steps of the search: what was known stays known. For `note_others`, `search_ends` and 5 more.
 use Rattle.std.proofs.Common.{◌≡◌, ℕ, ◌+◌, ◌<◌, ◌≤◌, List, Bool, true, false, below_more, length, get_or, slice_get, Some, sym, ◌∙◌, arith}
 use Rattle.std.proofs.lemmas.Option.{get_or_from_slice_get, slice_get-get_or, slice_get_within}
 use Rattle.np_lint.specs.Types.{Direction, EstateLists, Family, KindPod, LayerRules, Tier, UsedRules}

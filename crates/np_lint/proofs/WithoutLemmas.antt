@@ -1,4 +1,4 @@
--- The rules of a side, where some are taken out of the estate.
+-- The rules of a side, where some are taken out of the estate. For ChangeLemmas.
 use Rattle.std.proofs.Common.{◌≡◌, ℕ, ◌+◌, ◌<◌, List, [], ◌∷◌, ◌++◌, Bool, true, false, ◌&&◌, ◌||◌, not, map, filter, is_some, length, Option, Some, None, All, refl, sym, ap, ◌∙◌, arith, unwrap_or, if◌then◌else◌}
 use Rattle.std.specs.List.{enumerate_from, flat_map, slice_get}
 use Rattle.std.specs.Option.{option_map, option_map_or}

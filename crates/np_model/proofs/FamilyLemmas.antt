@@ -1,4 +1,4 @@
--- Families of addresses.
+-- Families of addresses. For crates above.
 use Rattle.std.proofs.Common.{◌≡◌, true, refl}
 use Rattle.np_model.specs.Families.{same_family}
 use Rattle.np_model.specs.Types.{Family, Four, Six}

@@ -1,4 +1,4 @@
--- Words: where one ends, and the digits of a number.
+-- Words: where one ends, and the digits of a number. For crates above.
 use Rattle.std.proofs.Common.{◌≡◌, ℕ, List, [], ◌∷◌, ◌++◌, true, false, refl, sym, ap, ◌∙◌, arith, ◌<◌, ◌^◌, decimal}
 use Rattle.std.proofs.lemmas.Bool.{and_parts, false≢true, true≢false, and_from}
 use Rattle.std.specs.Int.{IsInRange}

@@ -1,4 +1,4 @@
--- The numbers of things among those in order.
+-- The numbers of things among those in order. For `each_thing_has_one_number`, `names_stand_in_order` and crates above.
 use Rattle.std.proofs.Common.{◌≡◌, ℕ, ◌^◌, ◌<◌, ◌==◌, List, [], ◌∷◌, false, length, get_or, slice_get, Some, map, Ordering, Less, Equal, Greater, refl, sym, ap, subst, ◌∙◌, arith}
 use Rattle.std.specs.Prelude.{All, Contains}
 use Rattle.std.specs.Cmp.{nat_cmp_total}

@@ -1,4 +1,4 @@
--- Things put into their places by name.
+-- Things put into their places by name. For `each_thing_has_one_number`, `in_order` and 3 more.
 use Rattle.std.proofs.Common.{◌≡◌, ℕ, ◌+◌, ◌<◌, ◌≤◌, List, [], ◌∷◌, ◌++◌, length, map, fold, Ordering, Less, Equal, Greater, zero, suc, refl, sym, ap, ◌∙◌, arith, append-nil}
 use Rattle.std.specs.Prelude.{All}
 use Rattle.std.specs.BTreeSet.{insert_key}

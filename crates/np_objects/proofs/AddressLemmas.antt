@@ -1,4 +1,4 @@
--- A list of addresses, and a set of the same addresses.
+-- A list of addresses, and a set of the same addresses. For `keep`.
 use Rattle.std.proofs.Common.{◌≡◌, ◌∙◌, ℕ, List, [], ◌∷◌, ◌++◌, Bool, true, false, cond, not, ◌||◌, ◌==◌, if◌then◌else◌, Option, Some, refl, ap, sym, arith}
 use Rattle.std.specs.BTreeMap.{is_at}
 use Rattle.std.specs.List.{list_any}

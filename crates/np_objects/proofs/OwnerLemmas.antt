@@ -1,4 +1,4 @@
--- Which reference names the owner of an object.
+-- Which reference names the owner of an object. For `first_counting_reference_names_owner` and crates above.
 use Rattle.std.proofs.Common.{◌≡◌, ◌∙◌, ℕ, List, [], ◌∷◌, ◌++◌, Bool, true, false, ◌||◌, if◌then◌else◌, codes, Option, Some, None, option_map, find, refl, ap, arith}
 use Rattle.std.specs.Prelude.{All}
 use Rattle.std.specs.Bool.{Decides}

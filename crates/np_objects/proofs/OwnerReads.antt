@@ -1,4 +1,4 @@
--- The owner of an object that is read is the one that its references name.
+-- The owner of an object that is read is the one that its references name. For `owner_is_read_of_references`.
 use Rattle.std.proofs.Common.{◌≡◌, ◌∙◌, ℕ, List, [], Option, Some, None, Ok, Err, codes, unwrap_or, refl, ap}
 use Rattle.serde_json.specs.Data.{Data}
 use Rattle.np_json.specs.Members.{member_of}

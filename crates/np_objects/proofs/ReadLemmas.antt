@@ -1,4 +1,4 @@
--- What the shapes of members read passes a test, if each member that is read does.
+-- What the shapes of members read passes a test, if each member that is read does. For WellLemmas.
 use Rattle.std.proofs.Common.{◌≡◌, ℕ, ◌+◌, List, [], ◌∷◌, Bool, true, false, not, Option, Some, None, Ok, Err, codes, unwrap_or, refl, subst}
 use Rattle.std.specs.List.{list_all}
 use Rattle.std.proofs.lemmas.Bool.{and_from, not-false}

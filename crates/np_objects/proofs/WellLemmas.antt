@@ -1,4 +1,4 @@
--- What the shapes of objects read is well formed.
+-- What the shapes of objects read is well formed. For `read_object` and crates above.
 use Rattle.std.proofs.Common.{◌≡◌, ℕ, List, [], ◌∷◌, length, map, fold, Bool, true, false, not, ◌&&◌, ◌==◌, if◌then◌else◌, IfOk, Option, Some, None, option_map, find, Ok, Err, Result, ℤ, codes, unwrap_or, refl, ap, ◌∙◌}
 use Rattle.std.specs.List.{list_all, filter_map, flat_map}
 use Rattle.std.specs.Option.{option_flatten}

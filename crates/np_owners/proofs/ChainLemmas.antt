@@ -1,4 +1,4 @@
--- The chains of the owners of items.
+-- The chains of the owners of items. For `chains_of`, `top_owners` and crates above.
 use Rattle.std.proofs.Common.{◌≡◌, ℕ, zero, suc, ◌+◌, ◌<◌, ◌≤◌, List, [], ◌∷◌, ◌++◌, length, map, take, get_or, Bool, true, false, cond, Option, Some, None, refl, sym, ap, ◌∙◌, arith}
 use Rattle.std.specs.Prelude.{find, All}
 use Rattle.std.specs.List.{range_with_len, slice_get}

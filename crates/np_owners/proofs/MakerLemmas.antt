@@ -1,4 +1,4 @@
--- Which controllers stand for a pod.
+-- Which controllers stand for a pod. For `made_pods`.
 use Rattle.std.proofs.Common.{◌≡◌, ℕ, ◌<◌, List, length, map, get_or, Bool, ◌&&◌, not, Option, Some, None, is_some, is_none, refl, sym, ap, ◌∙◌}
 use Rattle.std.specs.List.{slice_get, range_with_len}
 use Rattle.std.proofs.Math.Nat.{zero-add}

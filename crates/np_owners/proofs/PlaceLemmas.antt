@@ -1,4 +1,4 @@
--- Where names stand in a list of items.
+-- Where names stand in a list of items. For `note` and crates above.
 use Rattle.std.proofs.Common.{◌≡◌, ℕ, List, [], ◌∷◌, ◌++◌, length, Bool, true, false, cond, Some, None, refl, sym, ap, subst, ◌∙◌, zero-add}
 use Rattle.std.specs.Cmp.{first_so, second_so, tied_then}
 use Rattle.std.specs.Cmp.Lexicographic.{slice_cmp, bytes_decides, nat_list_eq_equiv}

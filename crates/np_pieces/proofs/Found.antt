@@ -1,4 +1,4 @@
--- Pieces found in a list.
+-- Pieces found in a list. For `are_empty` and `value_of`.
 use Rattle.std.proofs.Common.{◌≡◌, ℕ, ◌+◌, ◌<◌, ◌≤◌, List, [], ◌∷◌, Option, Some, None, is_some, Bool, true, zero, suc, length, get_or, drop, sym, ◌∙◌, ap, arith}
 use Rattle.std.proofs.lemmas.Bool.{true≢false}
 use Rattle.np_base.proofs.Lists.{drop-ended}

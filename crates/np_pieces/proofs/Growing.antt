@@ -1,4 +1,4 @@
--- Lists of pieces that grow at the end.
+-- Lists of pieces that grow at the end. For `grown`.
 use Rattle.std.proofs.Common.{◌≡◌, ◌≢◌, ℕ, ◌+◌, ◌<◌, ◌≤◌, List, [], ◌∷◌, ◌++◌, Option, Some, None, Bool, true, false, not, cond, refl, sym, ◌∙◌, ap, arith}
 use Rattle.std.proofs.lemmas.Bool.{le-leb}
 use Rattle.np_base.proofs.Bools.{not_itself}

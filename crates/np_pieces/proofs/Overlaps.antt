@@ -1,4 +1,4 @@
--- Steps of one pass over two lists of pieces.
+-- Steps of one pass over two lists of pieces. For `take_overlap`.
 use Rattle.std.proofs.Common.{◌≡◌, ℕ, ◌+◌, ◌<◌, ◌≤◌, min, max, List, [], ◌∷◌, length, Option, Some, arith, inl, inr}
 use Rattle.std.proofs.lemmas.Bool.{cases_lt, cases_order}
 use Rattle.np_pieces.specs.Types.{Piece}

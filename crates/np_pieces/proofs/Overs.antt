@@ -1,4 +1,4 @@
--- One value at the numbers of ranges, and another at the others.
+-- One value at the numbers of ranges, and another at the others. For `Pieces::over` and `pieces_over`.
 use Rattle.std.proofs.Common.{◌≡◌, ℕ, ◌+◌, ◌<◌, ◌≤◌, List, [], ◌∷◌, Some, None, Bool, ◌&&◌, if◌then◌else◌, refl, sym, ◌∙◌, arith, inl, inr}
 use Rattle.std.proofs.lemmas.Bool.{cases_lt, and_right, le-leb, lt-leb}
 use Rattle.np_base.specs.Ranges.{holds, IsAscending}

@@ -1,4 +1,4 @@
--- Lists of pieces with the same values, and with others.
+-- Lists of pieces with the same values, and with others. For `same_pieces`.
 use Rattle.std.proofs.Common.{◌≡◌, ℕ, ◌+◌, ◌<◌, ◌≤◌, List, None, Bool, not, sym, ◌∙◌, ap, arith, inl, inr}
 use Rattle.std.proofs.lemmas.Bool.{cases_lt}
 use Rattle.np_pieces.specs.Types.{At, Piece}

@@ -1,4 +1,4 @@
--- One pass over two lists of pieces.
+-- One pass over two lists of pieces. For `combine_pieces` and `same_pieces`.
 use Rattle.std.proofs.Common.{◌≡◌, ℕ, ◌+◌, ◌<◌, ◌≤◌, List, [], None, Bool, false, refl, sym, ◌∙◌, arith, inl, inr}
 use Rattle.std.proofs.lemmas.Bool.{cases_lt}
 use Rattle.np_pieces.specs.Types.{Join, Meet, Minus, Operation, Piece}

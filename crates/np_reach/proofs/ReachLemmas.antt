@@ -1,4 +1,4 @@
--- A side allows nothing with a far end that is out of its reach.
+-- A side allows nothing with a far end that is out of its reach. For `no_port_out_of_reach` and crates above.
 use Rattle.std.proofs.Common.{◌≡◌, ℕ, List, [], ◌∷◌, Bool, true, false, ◌&&◌, ◌||◌, filter, unwrap_or, Option, Some, None, refl, ap, ◌∙◌, inl, inr, if◌then◌else◌}
 use Rattle.std.specs.List.{list_any}
 use Rattle.std.proofs.lemmas.Bool.{and_left, or_parts, or_from, not-false}

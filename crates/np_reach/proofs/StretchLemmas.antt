@@ -1,4 +1,4 @@
--- Pods that stand together.
+-- Pods that stand together. For `is_alike` and `stretches`.
 use lib.Pointwise.{pointwise}
 use Rattle.std.proofs.Common.{◌≡◌, ℕ, nat_eq, true, ◌&&◌, zero, suc, ◌+◌, ◌<◌, ◌≤◌, ◌-◌, List, [], ◌∷◌, ◌++◌, Some, flat_map, get_or, length, slice_get, take, drop, arith, refl, sym, ap, subst, inl, inr, ◌∙◌}
 use Rattle.std.specs.Prelude.{All}

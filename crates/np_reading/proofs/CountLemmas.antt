@@ -1,4 +1,4 @@
--- Counts of items, and neighbours of one priority.
+-- Counts of items, and neighbours of one priority. For `contexts`, `count_left_out` and `refuse_equal_neighbours`.
 use Rattle.std.proofs.Common.{◌≡◌, ℕ, zero, suc, ◌+◌, ◌<◌, ◌≤◌, List, [], ◌∷◌, length, get_or, Bool, false, cond, Option, Some, None, refl, sym, ap, ◌∙◌, arith, add-zero, add-one}
 use Rattle.std.specs.Prelude.{fold}
 use Rattle.std.specs.List.{count_by, range_with_len, slice_get}

@@ -1,4 +1,4 @@
--- The estate of items that nothing refuses.
+-- The estate of items that nothing refuses. For crates above.
 use Rattle.std.proofs.Common.{◌≡◌, ℕ, List, None, Ok, refl}
 use Rattle.np_reading.specs.Types.{Item, Notes}
 use Rattle.np_owners.specs.Names.{first_repeat}

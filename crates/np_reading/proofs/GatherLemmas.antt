@@ -1,4 +1,4 @@
--- What is gathered of items, one after another, and all at once.
+-- What is gathered of items, one after another, and all at once. For `gather` and `lists_of`.
 use Rattle.std.proofs.Common.{◌≡◌, ℕ, ◌+◌, List, [], ◌∷◌, ◌++◌, length, map, Option, Some, None, refl, sym, ap, ◌∙◌, arith, append_assoc, append-nil, length-append, add-zero}
 use Rattle.std.specs.Prelude.{fold, option_to_list}
 use Rattle.std.specs.List.{cons_option, filter_map}

@@ -1,4 +1,4 @@
--- Entries of a map under keys that differ are all kept.
+-- Entries of a map under keys that differ are all kept. For OnceLemmas and PriorityLemmas.
 use Rattle.std.proofs.Common.{◌≡◌, ◌≢◌, ℕ, ◌<◌, suc, List, [], ◌∷◌, ◌++◌, length, map, get_or, Ordering, Less, Equal, Greater, fold, refl, sym, subst, ◌∙◌, append-nil, arith}
 use Rattle.std.specs.Prelude.{All, AllPairs, IsPermutation}
 use Rattle.std.specs.BTreeMap.{insert_entry}

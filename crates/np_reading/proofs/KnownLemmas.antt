@@ -1,4 +1,4 @@
--- The labels of namespaces that are known already.
+-- The labels of namespaces that are known already. For `shared_labels`.
 use Rattle.std.proofs.Common.{◌≡◌, ℕ, List, Bool, true, false, cond, Some, refl, sym, ◌∙◌}
 use Rattle.std.specs.BTreeMap.{BTreeMap, get}
 use Rattle.std.specs.Cmp.Lexicographic.{slice_cmp, bytes_decides, texts_ties}

@@ -1,4 +1,4 @@
--- What is read of items of which no two have one name is apart.
+-- What is read of items of which no two have one name is apart. For LawfulReading and OnceLemmas.
 use Rattle.std.proofs.Common.{◌≡◌, ℕ, List, [], filter, true, Some, None, refl, ap}
 use Rattle.std.specs.Prelude.{codes, AllPairs}
 use Rattle.std.specs.Cmp.Lexicographic.{nat_list_eq_equiv}

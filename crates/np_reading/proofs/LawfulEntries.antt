@@ -1,4 +1,4 @@
--- Entries of a map that are put in one after another.
+-- Entries of a map that are put in one after another. For LawfulPolicies and PriorityLemmas.
 use Rattle.std.proofs.Common.{◌≡◌, ◌+◌, ◌<◌, ◌≤◌, List, [], ◌∷◌, length, map, get_or, Ordering, Less, Equal, Greater, fold, refl, ap, subst, ◌∙◌, arith}
 use Rattle.std.specs.Prelude.{AllPairs}
 use Rattle.std.specs.BTreeMap.{insert_entry}

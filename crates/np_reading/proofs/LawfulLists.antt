@@ -1,4 +1,4 @@
--- What is so of each element of a list, and of each two of them.
+-- What is so of each element of a list, and of each two of them. For LawfulApart, LawfulEntries and 7 more.
 use Rattle.std.proofs.Common.{◌≡◌, ◌≤◌, List, [], ◌∷◌, length, filter, map, Bool, true, false, cond, Option, Some, None, refl, arith}
 use Rattle.std.specs.Prelude.{AllPairs, ⊤}
 use Rattle.std.specs.List.{AllByRecursion, filter_map, cons_option, list_all}

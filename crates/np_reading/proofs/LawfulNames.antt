@@ -1,4 +1,4 @@
--- Items of which no two have one name.
+-- Items of which no two have one name. For LawfulApart, OnceLemmas and crates above.
 use Rattle.std.proofs.Common.{◌≡◌, ℕ, ◌+◌, List, [], ◌∷◌, ◌++◌, length, Bool, true, false, Option, Some, None, refl, sym, ◌∙◌}
 use Rattle.std.specs.List.{AllByRecursion, position_from}
 use Rattle.std.specs.Option.{option_and_then, option_or}

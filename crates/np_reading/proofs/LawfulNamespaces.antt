@@ -1,4 +1,4 @@
--- Pods have the labels of their namespaces, which say the namespaces' names.
+-- Pods have the labels of their namespaces, which say the namespaces' names. For LawfulOwners, LawfulReading and 2 more.
 use Rattle.std.proofs.Common.{◌≡◌, ℕ, List, [], ◌∷◌, ◌++◌, length, true, ◌&&◌, ◌==◌, not, Option, Some, None, fold, refl, sym, ap, subst, ◌∙◌}
 use Rattle.std.specs.Prelude.{codes, All}
 use Rattle.std.specs.List.{slice_get}

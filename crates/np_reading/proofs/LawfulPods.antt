@@ -1,4 +1,4 @@
--- What is so of the pods that items give.
+-- What is so of the pods that items give. For LawfulApart, LawfulReading and LawfulWell.
 use Rattle.std.proofs.Common.{◌≡◌, ℕ, ◌+◌, ◌≤◌, List, [], ◌∷◌, ◌++◌, length, Bool, true, false, cond, ◌&&◌, Option, Some, None, refl, sym, ap, subst, ◌∙◌, arith}
 use Rattle.std.specs.Prelude.{codes, option_to_list}
 use Rattle.std.specs.List.{AllByRecursion}

@@ -1,4 +1,4 @@
--- Policies that are read stand in their order.
+-- Policies that are read stand in their order. For `read_estate` and crates above.
 use Rattle.std.proofs.Common.{◌≡◌, ℕ, ◌≤◌, List, [], ◌∷◌, length, true, Ordering, Less, Equal, Greater, refl, sym, ap, ◌∙◌, arith}
 use Rattle.std.specs.Prelude.{AllPairs, fold}
 use Rattle.std.specs.Cmp.{IsTotalOrder}

@@ -1,4 +1,4 @@
--- Every estate that is read is lawful.
+-- Every estate that is read is lawful. For `read_estate`, `read_estates_are_lawful` and crates above.
 use Rattle.std.proofs.Common.{◌≡◌, ℕ, ◌+◌, ◌≤◌, List, [], ◌∷◌, ◌++◌, length, get_or, Option, Some, None, arith}
 use Rattle.std.specs.Prelude.{All, ⊤}
 use Rattle.std.specs.List.{AllByRecursion}

@@ -1,4 +1,4 @@
--- What is read of well formed items is well formed.
+-- What is read of well formed items is well formed. For LawfulReading.
 use Rattle.std.proofs.Common.{◌≡◌, ℕ, ◌+◌, List, [], ◌∷◌, ◌++◌, Bool, true, ◌&&◌, Option, Some, None, refl}
 use Rattle.std.specs.Prelude.{All}
 use Rattle.std.specs.List.{AllByRecursion, filter_map, list_all}

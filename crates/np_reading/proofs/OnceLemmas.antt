@@ -1,4 +1,4 @@
--- Each policy, Service and Ingress among items stands once in their estate.
+-- Each policy, Service and Ingress among items stands once in their estate. For `each_policy_and_service_stands_once` and crates above.
 use Rattle.std.proofs.Common.{◌≡◌, ◌≢◌, ℕ, suc, ◌+◌, ◌-◌, ◌≤◌, List, [], ◌∷◌, ◌++◌, map, true, Option, Some, None, Ok, refl, ap, subst, arith}
 use Rattle.std.specs.Prelude.{codes, AllPairs, IsPermutation, option_to_list}
 use Rattle.std.specs.Cmp.Lexicographic.{bytes_decides}

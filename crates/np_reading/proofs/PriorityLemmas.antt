@@ -1,4 +1,4 @@
--- Admin policies of different names have different priorities where no neighbours in their order have one.
+-- Admin policies of different names have different priorities where no neighbours in their order have one. For OnceLemmas.
 use Rattle.std.proofs.Common.{◌≡◌, ◌≢◌, ℕ, ◌<◌, List, [], ◌∷◌, map, Bool, true, false, cond, Some, None, Ordering, Less, Equal, Greater, fold, refl, sym, ap, subst, ◌∙◌, eq-eqb, arith}
 use Rattle.std.specs.Prelude.{AllPairs, IsPermutation, ◌==◌, ⊤}
 use Rattle.std.specs.Cmp.{IsTotalOrder, Equal-is}

@@ -1,4 +1,4 @@
--- What is so of a list that is not refused.
+-- What is so of a list that is not refused. For OnceLemmas and crates above.
 use Rattle.std.proofs.Common.{◌≡◌, ℕ, List, Option, Some, None, Ok, Err, refl}
 use Rattle.std.specs.Prelude.{⊤}
 use Rattle.np_reading.specs.Listed.{equal_priority, first_equal, have_priorities_apart, ranks_of}

@@ -1,4 +1,5 @@
 -- The top owner of an item that no listed controller owns is the one that it names.
+-- For `pods_without_listed_owners_name_their_top_owners` and crates above.
 use Rattle.std.proofs.Common.{◌≡◌, ℕ, List, length, Option, Some, None, refl, ap, ◌∙◌}
 use Rattle.std.specs.Prelude.{codes, option_map, unwrap_or}
 use Rattle.std.specs.List.{slice_get}

@@ -1,4 +1,4 @@
--- Rows as the default writer of `csv` writes them.
+-- Rows as the default writer of `csv` writes them. For `CsvFormForm::end`, `CsvFormForm::line` and `put_escaped`.
 use Rattle.std.proofs.Common.{◌≡◌, ℕ, List, [], ◌∷◌, ◌++◌, true, false, ◌==◌, codes, refl, sym, ap, ◌∙◌, append_assoc, append-nil, if◌then◌else◌}
 use Rattle.std.proofs.lemmas.Bool.{ne_eqb}
 use Rattle.csv.specs.Writing.{default_writer, escaped, field_text, fields_text, is_blank}

@@ -1,4 +1,4 @@
--- Objects as `serde_json` writes them.
+-- Objects as `serde_json` writes them. For `JsonFormForm::line`.
 use Rattle.std.proofs.Common.{◌≡◌, List, [], ◌∷◌, codes, append_assoc}
 use Rattle.json.specs.Print.{print, print_from}
 use Rattle.json.specs.Token.{Token, begin_object, end_object, key, string}

@@ -1,4 +1,4 @@
--- The bytes of several rows, and what comes behind them.
+-- The bytes of several rows, and what comes behind them. For crates above.
 use Rattle.std.proofs.Common.{◌≡◌, ℕ, List, [], ◌∷◌, ◌++◌, Bool, true, false, ◌||◌, append_assoc, ap, subst, sym, ◌∙◌}
 use Rattle.std.proofs.Math.Bool.{or-false, or-true}
 use Rattle.np_report.specs.Forms.{Form, lines_of, text_to_come}

@@ -1,4 +1,4 @@
--- Ranges as sets, and their blocks.
+-- Ranges as sets, and their blocks. For `no_points` and `set_of`.
 use Rattle.std.proofs.Common.{◌≡◌, ℕ, zero, suc, ◌+◌, ◌^◌, ◌<◌, List, [], ◌∷◌, true, false, nat_le, refl, sym, ◌∙◌, append-nil, arith, if◌then◌else◌}
 use Rattle.std.proofs.lemmas.Bool.{and_parts, both_ways, false_from_ne_true, leb-false, leb-true, or_left}
 use Rattle.std.proofs.lemmas.Nat.{pow_pos}

@@ -1,4 +1,4 @@
--- Tables that say the same have the same rows.
+-- Tables that say the same have the same rows. For `equal_tables_print_equal_bytes`.
 use Rattle.std.proofs.Common.{◌≡◌, ℕ, zero, suc, ◌+◌, ◌-◌, ◌^◌, ◌<◌, ◌≤◌, List, [], ◌∷◌, ◌++◌, true, None, length, map, refl, ap, ◌∙◌, arith}
 use Rattle.std.specs.List.{flat_map, range_with_len}
 use Rattle.np_report.specs.Types.{Direction, Family, Format, Four, Query, Report, Row, RowKey, Six}

@@ -1,4 +1,4 @@
--- What is still to come of the text of the table of a cluster, from row to row.
+-- What is still to come of the text of the table of a cluster, from row to row. For crates above.
 use Rattle.std.proofs.Common.{◌≡◌, ℕ, List, [], ◌∷◌, ◌++◌, Bool, true, false, refl}
 use Rattle.np_report.specs.Forms.{Form}
 use Rattle.np_report.specs.Keeps.{keeps}

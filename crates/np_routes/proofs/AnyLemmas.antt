@@ -1,4 +1,4 @@
--- Lists of which some item passes, and tests.
+-- Lists of which some item passes, and tests. For `add_service`.
 use Prim.Native.Nat.{zero}
 use Rattle.std.proofs.Common.{◌≡◌, ◌<◌, ℕ, List, [], ◌∷◌, Bool, true, false, ◌&&◌, ◌||◌, length, get_or, suc, arith, refl, sym, ap, ◌∙◌}
 use Rattle.std.proofs.Math.ListN.{set}

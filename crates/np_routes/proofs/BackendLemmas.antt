@@ -1,4 +1,4 @@
--- The routes of all ingresses, and of those of a namespace.
+-- The routes of all ingresses, and of those of a namespace. For `asked_services`.
 use Rattle.std.proofs.Common.{◌≡◌, ◌<◌, ◌+◌, ℕ, List, [], ◌∷◌, Bool, true, false, ◌&&◌, ◌||◌, length, get_or, take, Option, Some, None, flat_map, refl, sym, ap, ◌∙◌, if◌then◌else◌}
 use Rattle.std.specs.Prelude.{find}
 use Rattle.std.specs.Cmp.Lexicographic.{bytes_decides}

@@ -1,4 +1,4 @@
--- The rows of ingresses one after another.
+-- The rows of ingresses one after another. For `ClusterRows::next`, `ClusterRows::of` and `ingress_row`.
 use Rattle.std.proofs.Common.{◌≡◌, ◌<◌, ◌≤◌, ◌+◌, ◌-◌, ◌*◌, ℕ, suc, List, [], ◌∷◌, ◌++◌, true, false, Option, Some, None, is_some, flat_map, length, arith, refl, sym, ap, subst, ◌∙◌}
 use Rattle.std.specs.Prelude.{MatchOption}
 use Rattle.std.specs.List.{range_with_len}

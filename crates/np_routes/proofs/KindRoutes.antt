@@ -1,4 +1,4 @@
--- Pods that no service and no rule tells apart.
+-- Pods that no service and no rule tells apart. For ReachedLemmas and crates above.
 use Rattle.std.proofs.Common.{◌≡◌, ◌<◌, ℕ, List, [], ◌∷◌, ◌++◌, Bool, true, false, not, ◌&&◌, ◌==◌, Option, Some, None, IfSome, length, map, flat_map, slice_get, refl, sym, ap, subst, ◌∙◌, inl, inr, if◌then◌else◌}
 use Rattle.std.specs.Prelude.{filter}
 use Rattle.std.specs.List.{AllByRecursion, find, list_any}

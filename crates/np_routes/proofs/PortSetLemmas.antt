@@ -1,4 +1,4 @@
--- Sets of numbers and names of ports.
+-- Sets of numbers and names of ports. For `PortSet::add_all`, `PortSet::add_name` and 3 more.
 use Rattle.std.proofs.Common.{◌≡◌, ℕ, List, Bool, true, false, ◌&&◌, ◌||◌, ◌==◌, Bor, Option, Some, None, Ordering, refl, sym, ap, ◌∙◌}
 use Rattle.std.specs.BTreeSet.{BTreeSet, contains}
 use Rattle.std.specs.Cmp.Lexicographic.{slice_cmp}

@@ -1,4 +1,4 @@
--- Where routes lead.
+-- Where routes lead. For `ingresses_lead_as_the_api_says`.
 use Rattle.std.proofs.Common.{◌≡◌, ◌≢◌, ℕ, List, [], ◌∷◌, Bool, true, false, ◌&&◌, ◌||◌, Contains, Option, Some, None, map, flat_map, refl, sym, ap, ◌∙◌, if◌then◌else◌}
 use Rattle.std.specs.Prelude.{◌↔◌, filter}
 use Rattle.std.specs.Cmp.Lexicographic.{bytes_decides}

@@ -1,4 +1,4 @@
--- Places of services that are kept by namespace and name.
+-- Places of services that are kept by namespace and name. For `Services::of` and `put`.
 use Rattle.std.proofs.Common.{◌≡◌, ◌<◌, ◌+◌, ℕ, List, [], ◌∷◌, Bool, true, false, ◌&&◌, Option, Some, None, Bor, Less, Equal, Greater, Ordering, length, get_or, take, is_some, refl, sym, ap, ◌∙◌, if◌then◌else◌, cond}
 use Rattle.std.specs.BTreeMap.{BTreeMap, Updates}
 use Rattle.std.specs.Cmp.Lexicographic.{bytes_decides, slice_cmp}

@@ -1,4 +1,4 @@
--- Stretches in a right list.
+-- Stretches in a right list. For crates above.
 use Rattle.std.proofs.Common.{ℕ, ◌+◌, ◌≤◌, List, [], ◌∷◌, Bool, Option, Some, arith}
 use Rattle.np_table.specs.Right.{AreRight, Stretch}
 use Rattle.np_conns.specs.Conns.{Conns}

@@ -1,4 +1,4 @@
--- Where a backend leads, whose service serves a pod or not.
+-- Where a backend leads, whose service serves a pod or not. For `ServiceTargets::of`, `add_named` and 3 more.
 use Rattle.std.proofs.Common.{◌≡◌, ◌<◌, ◌+◌, ◌==◌, ℕ, List, [], ◌∷◌, ◌++◌, Bool, true, false, ◌&&◌, ◌||◌, Some, length, get_or, take, refl, sym, ap, ◌∙◌, if◌then◌else◌}
 use Rattle.std.specs.List.{list_any}
 use Rattle.std.specs.Option.{option_map_or}

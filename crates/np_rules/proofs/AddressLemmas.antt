@@ -1,4 +1,5 @@
 -- Sets of addresses, and connections at addresses.
+-- For `EveryAddressFarEndsAddrConns::admin_set`, `EveryAddressFarEndsAddrConns::net_set` and 7 more.
 use Rattle.std.proofs.Common.{◌≡◌, ℕ, ◌+◌, ◌-◌, ◌^◌, ◌<◌, List, [], ◌∷◌, Bool, true, false, not, ◌&&◌, ◌||◌, refl, sym, ◌∙◌, ap, arith, if◌then◌else◌}
 use Rattle.std.specs.List.{list_any}
 use Rattle.std.proofs.lemmas.Bool.Decides.{nat_tests}

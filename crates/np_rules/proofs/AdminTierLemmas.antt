@@ -1,4 +1,4 @@
--- The first matching rule in the order of the policies is the one that decides.
+-- The first matching rule in the order of the policies is the one that decides. For `admin_action` and crates above.
 use Rattle.std.proofs.Common.{◌≡◌, ℕ, ◌+◌, ◌<◌, ◌≤◌, List, [], ◌∷◌, ◌++◌, Bool, true, false, ◌&&◌, ◌||◌, ◌==◌, nat_lt, map, filter, length, take, get_or, Option, Some, refl, sym, ap, ◌∙◌, arith, if◌then◌else◌}
 use Rattle.std.specs.List.{AllByRecursion, enumerate_from, find}
 use Rattle.std.specs.Option.{option_map, option_or}

@@ -1,4 +1,4 @@
--- Rules of the baseline.
+-- Rules of the baseline. For `base_action` and `rules_for`.
 use Rattle.std.proofs.Common.{◌≡◌, List, true, map, Option, Some, refl, ap, ◌∙◌}
 use Rattle.std.specs.List.{find}
 use Rattle.std.specs.Option.{option_map}

@@ -1,4 +1,4 @@
--- Networks and the addresses of a pod: address by address, and block by block.
+-- Networks and the addresses of a pod: address by address, and block by block. For `some_address_in` and crates above.
 use Rattle.std.proofs.Common.{◌≡◌, List, [], ◌∷◌, Bool, true, false, ◌&&◌, ◌||◌, refl, sym, ap, ◌∙◌, arith}
 use Rattle.std.specs.List.{list_any}
 use Rattle.std.proofs.Math.Bool.{or-false, and-false}

@@ -1,4 +1,5 @@
 -- What decides says what the side says, and the first matching admin rule decides.
+-- For `decider_gives_the_verdict`, `first_admin_rule_decides` and crates above.
 use Rattle.std.proofs.Common.{◌≡◌, ◌≢◌, ℕ, List, [], ◌∷◌, Bool, true, false, ◌&&◌, ◌||◌, ◌==◌, nat_lt, filter, Option, Some, None, is_some, refl, sym, ◌∙◌, subst, arith, inl, inr, if◌then◌else◌}
 use Rattle.std.specs.List.{AllByRecursion, list_any}
 use Rattle.std.proofs.lemmas.Bool.Decides.{nat_tests}

@@ -1,4 +1,4 @@
--- Rules that match no address may be left out of a layer for addresses.
+-- Rules that match no address may be left out of a layer for addresses. For `PodRules::address_set`, `joined_set` and crates above.
 use Rattle.std.proofs.Common.{◌≡◌, ℕ, ◌+◌, ◌<◌, List, [], ◌∷◌, ◌++◌, Bool, true, false, append-nil, filter, find, get_or, length, map, take, Option, refl, sym, ap, subst, ◌∙◌, if◌then◌else◌}
 use Rattle.std.specs.List.{list_any}
 use Rattle.std.proofs.lemmas.Bool.{and_left, false≢true, or_from, or_parts}

@@ -1,4 +1,4 @@
--- Layers of rules, policy by policy, and what their walk says.
+-- Layers of rules, policy by policy, and what their walk says. For `PodRules::layer`.
 use Rattle.std.proofs.Common.{◌≡◌, ℕ, ◌+◌, List, [], ◌∷◌, ◌++◌, Bool, true, false, ◌||◌, map, Some, refl, sym, ap, ◌∙◌, unwrap_or, if◌then◌else◌}
 use Rattle.std.specs.List.{list_any, find, enumerate_from}
 use Rattle.std.specs.Str.{bytes_eq}

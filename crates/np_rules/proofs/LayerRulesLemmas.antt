@@ -1,4 +1,4 @@
--- Names of rules.
+-- Names of rules. For `push_ids`.
 use Rattle.std.proofs.Common.{◌≡◌, ℕ, zero, suc, ◌+◌, List, [], ◌∷◌, ◌++◌, length, map, add-one, ap, ◌∙◌, arith}
 use Rattle.std.specs.List.{enumerate_from}
 use Rattle.np_rules.specs.LayerRules.{ids_from}

@@ -1,4 +1,4 @@
--- Rules of NetworkPolicies, policy by policy.
+-- Rules of NetworkPolicies, policy by policy. For `permits` and crates above.
 use Rattle.std.proofs.Common.{◌≡◌, ℕ, ◌+◌, ◌<◌, List, [], Bool, ◌||◌, length, take, get_or, refl, sym, ap, ◌∙◌, unwrap_or, if◌then◌else◌}
 use Rattle.std.specs.List.{list_any}
 use Rattle.np_rules.specs.Types.{Direction, NetPolicy}

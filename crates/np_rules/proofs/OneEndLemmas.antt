@@ -1,4 +1,4 @@
--- One far end and what its spots stand for.
+-- One far end and what its spots stand for. For `PodRules::pod_layer`, `PodRules::point_layer` and 2 more.
 use Rattle.std.proofs.Common.{◌≡◌, ap, ◌∙◌}
 use Rattle.np_rules.specs.Types.{Direction, Family, OneEnd, PortSpot}
 use Rattle.np_rules.specs.model.Ends.{Contact, End, contact, destination_of}

@@ -1,4 +1,4 @@
--- Lists related place by place.
+-- Lists related place by place. For `admin_parts`, `base_parts` and 2 more.
 use Rattle.std.proofs.Common.{◌≡◌, ℕ, ◌+◌, ◌<◌, List, [], ◌∷◌, ◌++◌, length, take, get_or, map, refl, sym, ap, subst, ◌∙◌, append_assoc}
 use Rattle.std.proofs.lemmas.List.{take_more, map-append}
 use Rattle.np_rules.specs.Layers.{Pairwise}

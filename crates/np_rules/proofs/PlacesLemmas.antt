@@ -1,4 +1,4 @@
--- Rules with their policies and places.
+-- Rules with their policies and places. For AdminTierLemmas, BaseTierLemmas and 4 more.
 use Rattle.std.proofs.Common.{◌≡◌, ℕ, ◌+◌, ◌<◌, ◌≤◌, List, [], ◌∷◌, ◌++◌, Bool, true, false, ◌||◌, length, take, get_or, map, Some, refl, sym, ap, ◌∙◌, arith, if◌then◌else◌}
 use Rattle.std.specs.List.{enumerate_from, flat_map, list_any, find}
 use Rattle.std.specs.Option.{option_map, option_or}

@@ -1,4 +1,4 @@
--- The layer of a side, made of the rules that are kept of it.
+-- The layer of a side, made of the rules that are kept of it. For `PodRules::address_set` and `PodRules::layer`.
 use Rattle.std.proofs.Common.{◌≡◌, ℕ, ◌+◌, List, [], ◌∷◌, Bool, length, map, refl, sym, ap, ◌∙◌, subst, arith}
 use Rattle.np_rules.specs.Types.{AdminRule, Layer, NetRule}
 use Rattle.np_rules.specs.model.Ends.{Contact}

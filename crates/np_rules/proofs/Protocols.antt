@@ -1,4 +1,4 @@
--- Protocols.
+-- Protocols. For `named_at`.
 use Rattle.std.proofs.Common.{◌≡◌, ◌&&◌, ◌||◌, Bool, true, false, refl}
 use Rattle.np_conns.specs.Conns.{same_proto}
 use Rattle.np_rules.specs.Types.{Proto}

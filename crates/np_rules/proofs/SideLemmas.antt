@@ -1,4 +1,4 @@
--- What a side says as policies and rules come and go.
+-- What a side says as policies and rules come and go. For `network_policies_alone_isolate`, `policies_add_up` and 3 more.
 use Rattle.std.proofs.Common.{◌≡◌, List, [], ◌∷◌, ◌++◌, Bool, true, false, ◌&&◌, ◌||◌, Option, Some, None, is_some, unwrap_or, refl, sym, ap, ◌∙◌, if◌then◌else◌}
 use Rattle.std.specs.List.{flat_map, list_any}
 use Rattle.std.specs.Option.{option_map, option_map_or}

@@ -1,4 +1,4 @@
--- What the rules that are kept for strangers say of one.
+-- What the rules that are kept for strangers say of one. For `StrangerRules::layer`, `StrangerRules::net` and `rules_with_conns`.
 use Rattle.std.proofs.Common.{◌≡◌, ℕ, ◌+◌, ◌<◌, List, [], ◌∷◌, ◌++◌, Bool, true, ◌&&◌, ◌||◌, find, get_or, length, map, take, refl, sym, ap, ◌∙◌, subst}
 use Rattle.std.specs.List.{AllByRecursion, list_any}
 use Rattle.std.proofs.lemmas.List.{map-append, take_more}

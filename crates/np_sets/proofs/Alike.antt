@@ -1,4 +1,4 @@
--- Lists of ranges between the same numbers.
+-- Lists of ranges between the same numbers. For `same_ranges`.
 use Rattle.std.proofs.Common.{◌≡◌, ℕ, List, [], ◌∷◌, length, true, false, ◌==◌, refl, arith}
 use Rattle.std.proofs.lemmas.Bool.Decides.{nat_tests}
 use Rattle.np_base.specs.declared.range.Range.{Range}

@@ -1,4 +1,4 @@
--- The numbers that a list of ranges misses.
+-- The numbers that a list of ranges misses. For `complement_ranges` and `push_gap`.
 use Rattle.std.proofs.Common.{◌≡◌, ℕ, ◌+◌, ◌-◌, ◌<◌, List, [], ◌∷◌, ◌++◌, Bool, false, not, ◌||◌, ◌&&◌, nat_le, nat_lt, arith}
 use Rattle.std.proofs.lemmas.Bool.Decides.{nat_tests}
 use Rattle.np_base.specs.Ranges.{is_within, holds, IsAscending}

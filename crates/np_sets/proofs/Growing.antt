@@ -1,4 +1,4 @@
--- Lists of ranges that grow at the end.
+-- Lists of ranges that grow at the end. For `complement_ranges`, `grow` and 3 more.
 use Rattle.std.proofs.Common.{◌≡◌, ℕ, ◌+◌, ◌≤◌, List, [], ◌∷◌, ◌++◌, arith}
 use Rattle.np_base.specs.Ranges.{IsAscending}
 use Rattle.np_base.specs.declared.range.Range.{Range}

@@ -1,4 +1,4 @@
--- What lists of ranges hold.
+-- What lists of ranges hold. For `complement_ranges`, `join_ranges` and `point_ranges`.
 use Rattle.std.proofs.Common.{◌≡◌, ℕ, List, [], ◌∷◌, ◌++◌, Bool, ◌||◌}
 use Rattle.std.proofs.Math.Bool.{or-false}
 use Rattle.np_base.specs.Ranges.{is_within, holds}

@@ -1,4 +1,4 @@
--- What two lists of ranges share.
+-- What two lists of ranges share. For `meet_ranges` and `take_overlap`.
 use Rattle.std.proofs.Common.{◌≡◌, ℕ, ◌+◌, ◌≤◌, List, [], ◌∷◌, ◌++◌, Bool, true, false, ◌||◌, ◌&&◌, Option, Some, None, refl, sym, arith, inl, inr, ◌∙◌, append-nil}
 use Rattle.std.specs.Prelude.{IfSome, option_to_list, ◌⊎◌}
 use Rattle.std.proofs.lemmas.Bool.{and_parts, both_ways}

@@ -1,4 +1,4 @@
--- Lists of ranges with the same numbers, and with others.
+-- Lists of ranges with the same numbers, and with others. For `IntervalSetCells::is_empty` and `IntervalSetCells::same`.
 use Rattle.std.proofs.Common.{◌≡◌, ℕ, ◌+◌, ◌<◌, ◌≤◌, List, [], ◌∷◌, Bool, true, false, not, MatchBool, length, ◌==◌, refl, sym, arith, inl, inr}
 use Rattle.std.proofs.lemmas.Bool.{and_parts, or_from, or_left, eqb-true, eq-eqb, and_from, cases_order, false≢true, true≢false}
 use Rattle.std.proofs.lemmas.Bool.Decides.{nat_tests}

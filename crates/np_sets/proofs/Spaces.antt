@@ -1,4 +1,4 @@
--- What a list of ranges has and another has not.
+-- What a list of ranges has and another has not. For `subtract_ranges`.
 use Rattle.std.proofs.Common.{◌≡◌, ℕ, List, Bool, true, false, not, ◌&&◌, refl}
 use Rattle.std.proofs.lemmas.Bool.{false≢true}
 use Rattle.np_base.specs.Ranges.{holds, IsAscending}

@@ -1,4 +1,4 @@
--- Steps of one pass over two lists of ranges.
+-- Steps of one pass over two lists of ranges. For `take_earlier`.
 use Rattle.std.proofs.Common.{◌≡◌, ℕ, ◌+◌, ◌≤◌, List, [], ◌∷◌, Bool, true, false, ◌||◌, length, refl, sym, arith}
 use Rattle.np_base.specs.Ranges.{is_within, holds, IsAscending}
 use Rattle.np_base.specs.declared.range.Range.{Range}

@@ -1,4 +1,4 @@
--- Sets of addresses by their members.
+-- Sets of addresses by their members. For `ends_of` and `works_alone`.
 use Rattle.std.proofs.Common.{◌≡◌, ℕ, ◌+◌, ◌-◌, ◌^◌, ◌<◌, ◌&&◌, ◌||◌, nat_le, nat_lt, true, false, refl, sym, ◌∙◌, arith, lit≤}
 use Rattle.std.proofs.lemmas.Bool.{and_from, le-leb, lt-ltb, or_left}
 use Rattle.std.proofs.lemmas.Bool.Decides.{nat_tests}

@@ -1,4 +1,4 @@
--- Statements of any pod and any pod, asked at once.
+-- Statements of any pod and any pod, asked at once. For `first_broken` and `hold_together`.
 use Rattle.std.proofs.Common.{◌≡◌, ℕ, ◌+◌, ◌<◌, ◌&&◌, not, List, [], ◌∷◌, Bool, true, Option, Some, None, Ok, option_map, All, get_or, length, refl, sym, ap, ◌∙◌, inl, inr}
 use Rattle.std.specs.List.{list_any}
 use Rattle.std.proofs.lemmas.Bool.{and_from, and_parts, cases_Bool, or_left, or_right}

@@ -1,4 +1,4 @@
--- What is found of statements, line by line.
+-- What is found of statements, line by line. For `first_broken` and crates above.
 use Rattle.std.proofs.Common.{◌≡◌, ℕ, ◌+◌, ◌<◌, ◌≤◌, List, ◌∷◌, true, false, Option, Some, None, Result, Ok, Err, drop, get_or, is_some, length, refl, sym, ap, ◌∙◌}
 use Rattle.std.specs.Option.{option_or}
 use Rattle.std.specs.Prelude.{IsOk}

@@ -1,4 +1,4 @@
--- Lines that are broken, and the first of them.
+-- Lines that are broken, and the first of them. For `broken_of`, `lines_ask_what_their_statements_say` and 3 more.
 use Rattle.std.proofs.Common.{◌≡◌, ℕ, ◌↔◌, not, List, [], ◌∷◌, Bool, false, Option, Some, None, Ok, All, option_map, refl, sym, ap, subst, ◌∙◌}
 use Rattle.std.specs.Option.{option_or}
 use Rattle.std.proofs.lemmas.Bool.{and_parts, not-false, not-true}

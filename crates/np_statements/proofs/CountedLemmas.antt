@@ -1,4 +1,4 @@
--- The lines of a file are counted by its line feeds.
+-- The lines of a file are counted by its line feeds. For `lines_are_counted_by_line_feeds` and crates above.
 use Rattle.std.proofs.Common.{◌≡◌, ◌≢◌, ◌⊎◌, ℕ, zero, suc, ◌+◌, ◌==◌, List, [], ◌∷◌, ◌++◌, Bool, true, false, Option, Some, None, Result, Ok, Err, length, option_to_list, arith, refl, sym, ap, subst, ◌∙◌, inl, inr, if◌then◌else◌}
 use Rattle.std.specs.Prelude.{All}
 use Rattle.std.specs.List.{onto_first, slice_get, slice_split}

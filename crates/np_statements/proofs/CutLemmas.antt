@@ -1,4 +1,4 @@
--- Texts cut at marks: what is made at some place of a mark is found, and nothing else.
+-- Texts cut at marks: what is made at some place of a mark is found, and nothing else. For GrammarLemmas, LineLemmas and crates above.
 use Rattle.std.proofs.Common.{◌≡◌, ℕ, ◌==◌, List, [], ◌∷◌, ◌++◌, Bool, true, false, Option, Some, None, is_some, refl, sym, ap, ◌∙◌, inl, inr, if◌then◌else◌}
 use Rattle.std.specs.Option.{option_and_then, option_or}
 use Rattle.std.proofs.lemmas.Bool.{eq-eqb, eqb-true, true≢false}

@@ -1,4 +1,4 @@
--- The workloads of a form.
+-- The workloads of a form. For `ends_of`, `is_in_namespace` and 2 more.
 use Rattle.std.proofs.Common.{◌≡◌, ℕ, zero, suc, ◌+◌, ◌<◌, nat_le, List, [], ◌∷◌, ◌++◌, Bool, true, false, Option, Some, None, Ok, All, length, get_or, slice_get, slice_index, refl, sym, ap}
 use Rattle.std.proofs.Common.{subst, ◌∙◌, arith, append-nil, zero-add}
 use Rattle.std.specs.Prelude.{filter}

@@ -1,4 +1,5 @@
 -- The pods and the addresses that a form names are those of its ends.
+-- For `ends_are_those_of_their_forms`, `unknown_names_are_of_no_workload` and crates above.
 use Rattle.std.proofs.Common.{◌≡◌, ◌≢◌, ℕ, ◌^◌, ◌<◌, ◌↔◌, List, [], ◌∷◌, Bool, true, false, Option, Some, None, Ok, Err, length, map, get_or, slice_get, refl, sym, ap, subst, ◌∙◌, inl, inr, arith}
 use Rattle.std.specs.Prelude.{Contains, IsSomeAnd, filter}
 use Rattle.std.specs.Cmp.Lexicographic.{slice_cmp}

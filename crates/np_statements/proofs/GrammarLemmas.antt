@@ -1,4 +1,4 @@
--- A line is read as the statement whose text it is.
+-- A line is read as the statement whose text it is. For `lines_are_read_by_the_grammar` and crates above.
 use Rattle.std.proofs.Common.{◌≡◌, ℕ, List, [], ◌∷◌, ◌++◌, ◌&&◌, not, Bool, true, false, All, Option, Some, None, codes, option_map, refl, sym, ap, subst, ◌∙◌, append_assoc, if◌then◌else◌}
 use Rattle.std.specs.Option.{option_and_then}
 use Rattle.std.specs.Str.{bytes_eq}

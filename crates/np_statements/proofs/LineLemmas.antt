@@ -1,4 +1,4 @@
--- The lines of a file, read one after another.
+-- The lines of a file, read one after another. For `nothing_is_broken_where_a_file_holds`, `read_statements` and 3 more.
 use Rattle.std.proofs.Common.{◌≡◌, ℕ, ◌+◌, ◌<◌, ◌≤◌, List, [], ◌∷◌, ◌++◌, All, Option, Some, None, Result, Ok, Err, IfOk, map, length, drop, get_or, refl, sym, ap, subst, ◌∙◌, append_assoc}
 use Rattle.std.specs.Prelude.{option_to_list}
 use Rattle.std.specs.Str.{IsUtf8, is_utf8}

@@ -1,4 +1,4 @@
--- A line is the text of one statement at most.
+-- A line is the text of one statement at most. For `one_statement_of_a_line`, `read_statement` and 2 more.
 use Rattle.std.proofs.Common.{◌≡◌, ◌≢◌, ℕ, ◌<◌, ◌==◌, List, [], ◌∷◌, ◌++◌, ◌⊎◌, true, false, Option, Some, None, All, length, drop, codes, slice_index, option_map, refl, sym, ap, subst, ◌∙◌, inl, inr}
 use Rattle.std.proofs.Common.{append_assoc, arith, if◌then◌else◌, lit≤}
 use Rattle.std.proofs.lemmas.Bool.{and_from, cases_lt, true≢false}

@@ -1,4 +1,4 @@
--- Where a side of a line ends.
+-- Where a side of a line ends. For `behind_first` and `behind_mark`.
 use Rattle.std.proofs.Common.{◌≡◌, ◌≢◌, ℕ, ◌+◌, ◌≤◌, List, [], ◌∷◌, ◌++◌, ◌⊎◌, Option, Some, None, MatchOption, length, take, drop, codes, sym, ap, ◌∙◌, inl, inr, append_assoc, arith}
 use Rattle.std.specs.Borrow.{Bor}
 use Rattle.std.specs.List.{AllByRecursion}

@@ -1,4 +1,4 @@
--- Readings in steps.
+-- Readings in steps. For `read_statements` and crates above.
 use Rattle.std.proofs.Common.{◌≡◌, List, [], ◌++◌, Result, Ok, Err, refl}
 use Rattle.np_statements.specs.Steps.{◌>>=◌}
 

@@ -1,4 +1,4 @@
--- What the texts of ends and of connections begin with, and what they lack.
+-- What the texts of ends and of connections begin with, and what they lack. For `is_work_text`, `lacks` and `parts_of`.
 use Rattle.std.proofs.Common.{◌≡◌, ◌≢◌, ℕ, suc, ◌↔◌, MatchBool, get_or, ◌+◌, ◌<◌, ◌≤◌, ◌==◌, ◌&&◌, not, List, [], ◌∷◌, ◌++◌, Bool, true, false, Some, All, length, codes, refl, sym, ap, subst, ◌∙◌}
 use Rattle.std.proofs.Common.{inl, inr, append_assoc, arith, if◌then◌else◌, lit≤}
 use Rattle.std.specs.Char.{digit_value}

@@ -1,4 +1,5 @@
 -- Numbers that agree with one number agree with each other, and so the least pair that does not is one of firsts.
+-- For FlatFacts and KindGroups.
 use Rattle.std.proofs.Common.{◌≡◌, ◌≢◌, ◌⊎◌, ℕ, ◌<◌, ◌≤◌, List, All, Option, Some, None, Bool, true, false, ◌&&◌, ◌==◌, nat_lt, arith, refl, sym, ap, subst, ◌∙◌, inl, inr, eq-eqb}
 use Rattle.std.proofs.lemmas.Bool.{and_parts, and_from, cases_eq, false_from_ne_true, lt-ltb, ltb-true, or_right, true≢false}
 use Rattle.np_synth.proofs.FirstPairs.{first_pair-none, first_pair-some}

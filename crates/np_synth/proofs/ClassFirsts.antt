@@ -1,4 +1,4 @@
--- The first place of the class of a place.
+-- The first place of the class of a place. For FlatFacts, FlatVerdicts and 3 more.
 use Rattle.std.proofs.Common.{◌≡◌, ℕ, ◌<◌, ◌≤◌, Bool, true, not, Some, All, slice_index, slice_get, sym, ap, subst, ◌∙◌, inl, inr}
 use Rattle.std.proofs.lemmas.Bool.{cases_lt, false≢true}
 use Rattle.std.proofs.lemmas.List.Elements.{All-get_or, filter_passes}

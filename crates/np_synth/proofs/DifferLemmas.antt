@@ -1,4 +1,4 @@
--- Two workloads do not differ exactly where they agree.
+-- Two workloads do not differ exactly where they agree. For `are_same` and `differ_at_some`.
 use Rattle.std.proofs.Common.{◌≡◌, ◌≢◌, ℕ, ◌+◌, ◌<◌, List, [], ◌∷◌, Bool, true, false, not, ◌&&◌, ◌||◌, ◌==◌, if◌then◌else◌, map, eq-eqb, refl, sym, ap, ◌∙◌, inl, inr}
 use Rattle.std.specs.Prelude.{filter}
 use Rattle.std.specs.Bool.{Decides, MatchBool}

@@ -1,4 +1,4 @@
--- The first pair of numbers that passes a test.
+-- The first pair of numbers that passes a test. For AgreeLemmas, FlatFacts and 2 more.
 use Rattle.std.proofs.Common.{◌≡◌, ℕ, zero, suc, ◌+◌, ◌<◌, ◌≤◌, List, Bool, true, false, Option, Some, None, map, flat_map, arith, refl, sym, ap, ◌∙◌, inl, inr, if◌then◌else◌}
 use Rattle.std.specs.List.{find, range_with_len}
 use Rattle.std.specs.Option.{option_or}

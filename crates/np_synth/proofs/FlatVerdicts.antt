@@ -1,4 +1,4 @@
--- The flat policies alone allow what the whole estate does.
+-- The flat policies alone allow what the whole estate does. For `flat_policies_give_the_verdicts` and crates above.
 use Rattle.std.proofs.Common.{◌≡◌, ◌≢◌, ℕ, ◌<◌, List, [], ◌∷◌, Bool, true, false, ◌&&◌, ◌||◌, Option, Some, None, Contains, length, not, get_or, codes, if◌then◌else◌, refl, sym, ap, subst, ◌∙◌}
 use Rattle.std.specs.Option.{option_map_or}
 use Rattle.std.specs.List.{AllByRecursion, list_any}

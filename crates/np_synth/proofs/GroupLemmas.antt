@@ -1,4 +1,4 @@
--- Groups, by what selectors see of pods.
+-- Groups, by what selectors see of pods. For `groups_of`, `seen_of_workloads` and crates above.
 use Rattle.std.proofs.Common.{◌≡◌, ℕ, ◌+◌, ◌<◌, List, [], ◌∷◌, ◌++◌, true, false, Option, Some, None, map, length, slice_get, refl, sym, ap, ◌∙◌, zero-add}
 use Rattle.std.specs.Bool.{Decides}
 use Rattle.std.specs.Cmp.{Equal-is}

@@ -1,4 +1,4 @@
--- Where all numbers of a group agree, a set between two numbers depends on their groups alone.
+-- Where all numbers of a group agree, a set between two numbers depends on their groups alone. For FlatFacts.
 use Rattle.std.proofs.Common.{◌≡◌, ◌≢◌, ℕ, ◌<◌, Bool, true, false, sym, ap, subst, ◌∙◌, inl, inr}
 use Rattle.std.proofs.lemmas.Bool.{cases_Bool, cases_eq, true≢false}
 use Rattle.np_synth.specs.steps.Agree.{Agree}

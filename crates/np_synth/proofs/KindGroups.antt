@@ -1,4 +1,4 @@
--- Workloads of one kind are of one group and agree, so the least pair that differs is one of firsts.
+-- Workloads of one kind are of one group and agree, so the least pair that differs is one of firsts. For `first_unlike` and crates above.
 use Rattle.std.proofs.Common.{◌≡◌, ℕ, ◌<◌, ◌^◌, ◌-◌, ◌++◌, List, [], ◌∷◌, Bool, true, false, not, ◌||◌, Option, Some, All, map, lit≤, refl, sym, ap, subst, ◌∙◌}
 use Rattle.std.specs.Option.{option_map_or}
 use Rattle.std.specs.List.{list_all}

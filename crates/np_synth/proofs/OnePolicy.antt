@@ -1,4 +1,5 @@
 -- What the side of a pod allows that one policy of a list selects, without other policies.
+-- For AddressVerdicts, FlatVerdicts and crates above.
 use Rattle.std.proofs.Common.{◌≡◌, ◌≢◌, ℕ, ◌+◌, ◌<◌, List, [], ◌∷◌, Bool, true, false, ◌||◌, Option, Some, None, map, flat_map, if◌then◌else◌, refl, sym, ap, ◌∙◌, inl, inr}
 use Rattle.std.specs.Prelude.{is_some, unwrap_or}
 use Rattle.std.specs.List.{enumerate_from, list_any}

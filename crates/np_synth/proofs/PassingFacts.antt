@@ -1,4 +1,4 @@
--- The sides of the kinds of workloads, and what passes between two.
+-- The sides of the kinds of workloads, and what passes between two. For `Passing::between` and `Passing::of`.
 use Rattle.std.proofs.Common.{◌≡◌, ◌≢◌, ◌==◌, ◌+◌, ℕ, false, true, length, inl, inr, arith, sym, ap, ◌∙◌}
 use Rattle.std.proofs.lemmas.Bool.{and_left, cases_eq, ne_eqb}
 use Rattle.np_synth.specs.Types.{Direction, Egress, EstateLists, Family, Ingress, PortSpot}

@@ -1,4 +1,4 @@
--- The parts of a flat policy, as they are made.
+-- The parts of a flat policy, as they are made. For `Flat::add_rule_from` and `Flat::policy`.
 use Rattle.std.proofs.Common.{◌≡◌, ℕ, List, [], ◌∷◌, Bool, false, Option, Some, Result, Ok, Err, OnOk, if◌then◌else◌, sym, ap, ◌∙◌}
 use Rattle.np_conns.specs.Conns.{Conns}
 use Rattle.np_synth.specs.Types.{EstateLists, NetPeer, NetPolicy, NetPort, NetRule, Pods, Selector}

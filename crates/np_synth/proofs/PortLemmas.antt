@@ -1,4 +1,4 @@
--- Which ports the port entries of a set match.
+-- Which ports the port entries of a set match. For AddressVerdicts and FlatVerdicts.
 use Rattle.std.proofs.Common.{◌≡◌, ℕ, List, [], ◌∷◌, ◌++◌, Bool, true, false, ◌&&◌, ◌||◌, ◌==◌, nat_le, map, if◌then◌else◌, refl, sym, ap, ◌∙◌}
 use Rattle.std.specs.List.{list_any}
 use Rattle.std.proofs.lemmas.Bool.{and_parts, eqb-true, or_left, true≢false}

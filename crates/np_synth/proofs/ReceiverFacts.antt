@@ -1,4 +1,4 @@
--- The workload of a group that stands for it as one that receives.
+-- The workload of a group that stands for it as one that receives. For `Flat::add_rules_of_addresses`, `Flat::count` and 6 more.
 use Rattle.std.proofs.Common.{◌≡◌, ◌≢◌, ℕ, ◌+◌, ◌-◌, ◌<◌, ◌≤◌, List, [], ◌∷◌, ◌++◌, All, Bool, true, false, not, ◌&&◌, ◌==◌, Option, Some, None, flat_map, slice_index, refl, sym, ap, subst, ◌∙◌, inl}
 use Rattle.std.proofs.Common.{inr, arith, eq-eqb, if◌then◌else◌}
 use Rattle.std.specs.Prelude.{is_some, option_map}

@@ -1,4 +1,5 @@
 -- What is split, and what is alike and differs, packet by packet.
+-- For `the_first_alike_are_told`, `the_first_split_is_told` and crates above.
 use Rattle.std.proofs.Common.{◌≡◌, ◌⊎◌, ℕ, ◌<◌, List, [], ◌∷◌, Bool, true, false, ◌&&◌, not, map, nat_lt, Option, Some, None, arith, refl, sym, ap, ◌∙◌, inl, inr}
 use Rattle.std.specs.List.{Contains}
 use Rattle.std.proofs.lemmas.Bool.{and_parts, lt-ltb, ltb-true, true≢false}

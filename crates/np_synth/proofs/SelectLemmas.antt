@@ -1,4 +1,4 @@
--- Which labels meet the selectors of groups and of namespaces.
+-- Which labels meet the selectors of groups and of namespaces. For FlatVerdicts.
 use Rattle.std.proofs.Common.{◌≡◌, ℕ, List, [], ◌∷◌, Bool, true, false, ◌&&◌, ◌||◌, codes, Option, Some, None, refl, ap, ◌∙◌}
 use Rattle.std.specs.List.{list_all}
 use Rattle.std.specs.Option.{option_eq}

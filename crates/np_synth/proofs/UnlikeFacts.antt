@@ -1,4 +1,4 @@
--- The groups of workloads by lists of numbers and of first workloads.
+-- The groups of workloads by lists of numbers and of first workloads. For `Flat::next_like` and `first_unlike`.
 use Rattle.std.proofs.Common.{◌≡◌, ℕ, ◌<◌, List, All, map, length, slice_get, slice_index, sym, ap, subst, ◌∙◌}
 use Rattle.std.proofs.lemmas.List.{length-map}
 use Rattle.std.proofs.lemmas.List.Elements.{All-get_or}

@@ -1,4 +1,4 @@
--- What passes at each address, as the one right list of ranges.
+-- What passes at each address, as the one right list of ranges. For `conns_at` and `rows_by_addresses`.
 use Rattle.std.proofs.Common.{◌≡◌, ◌≤◌, ◌-◌, ◌^◌, ◌++◌, ℕ, List, Bool, true, false, ◌&&◌, map, lit≤, refl, ◌∙◌}
 use Rattle.std.proofs.lemmas.Bool.{and_from, le-leb}
 use Rattle.np_table.specs.Types.{Direction, Egress, EstateLists, Family, Four, Ingress, Piece, PortSpot, Six}

@@ -1,4 +1,4 @@
--- How many rules are still to be looked at, from place to place.
+-- How many rules are still to be looked at, from place to place. For `Rows::new`, `Rows::next` and 2 more.
 use Rattle.std.proofs.Common.{◌≡◌, ◌≢◌, ◌<◌, ◌≤◌, ◌+◌, ◌-◌, ◌*◌, ◌/◌, ◌%◌, ℕ, zero, suc, List, [], Bool, true, false, Option, length, map, nat_lt, arith, refl, sym, ap, subst, inl, inr, ◌∙◌, if◌then◌else◌}
 use Rattle.std.specs.List.{range_with_len}
 use Rattle.std.proofs.Math.Nat.{div-lt_iff_lt-mul, mod-lt, mul-le-mul_left, mul-le-mul_right}

@@ -1,4 +1,4 @@
--- The rows from place to place are all rows of a table.
+-- The rows from place to place are all rows of a table. For `Rows::new`, `Rows::next` and 2 more.
 use Rattle.std.proofs.Common.{◌≡◌, ℕ, zero, suc, ◌+◌, ◌-◌, ◌*◌, ◌/◌, ◌%◌, ◌<◌, ◌≤◌, List, [], ◌∷◌, ◌++◌, length, flat_map, reverse, Bool, true, false, nat_lt, refl, sym, ap, subst, ◌∙◌, arith}
 use Rattle.std.proofs.Common.{append_assoc, append-nil, if◌then◌else◌}
 use Rattle.std.specs.List.{range_with_len}

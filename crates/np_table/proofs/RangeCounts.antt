@@ -1,4 +1,4 @@
--- How many stretches have a number.
+-- How many stretches have a number. For `each_number_is_in_one_range`.
 use Rattle.std.proofs.Common.{◌≡◌, ℕ, ◌+◌, ◌<◌, ◌≤◌, List, [], ◌∷◌, Bool, true, false, Option, Some, None, cond, count_by, refl, ◌∙◌, ap, zero-add, arith, inl, inr}
 use Rattle.std.proofs.lemmas.Bool.{and_from, and_left, and_right, cases_lt, le-leb, lt-leb}
 use Rattle.std.proofs.lemmas.List.Sums.{sum_by-cons}

@@ -1,4 +1,4 @@
--- No two lists are right.
+-- No two lists are right. For `equal_tests_have_one_list`, `one_list_is_right` and crates above.
 use Rattle.std.proofs.Common.{◌≡◌, ℕ, ◌+◌, ◌<◌, ◌≤◌, List, [], ◌∷◌, Bool, true, Option, Some, None, refl, sym, ◌∙◌, ap, arith, inl, inr}
 use Rattle.std.proofs.lemmas.Bool.{cases_order}
 use Rattle.np_conns.specs.Conns.{Conns, is_spot}

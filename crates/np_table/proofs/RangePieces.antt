@@ -1,4 +1,4 @@
--- Pieces are the right list of what passes by them.
+-- Pieces are the right list of what passes by them. For `pieces_are_right`.
 use Rattle.std.proofs.Common.{◌≡◌, ℕ, ◌+◌, ◌<◌, ◌≤◌, List, [], ◌∷◌, Bool, Option, Some, None, refl, ◌∙◌, ap, arith}
 use Rattle.np_conns.specs.Conns.{Conns, IsConns, has_spot}
 use Rattle.np_table.specs.Types.{Piece, PortSpot}

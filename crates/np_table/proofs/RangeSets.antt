@@ -1,4 +1,4 @@
--- The connections of a test, and when two are the same.
+-- The connections of a test, and when two are the same. For KindLemmas, RangeOneList and 6 more.
 use Rattle.std.proofs.Common.{◌≡◌, ℕ, Bool, true, ◌==◌, ap, ◌∙◌, refl}
 use Rattle.std.proofs.lemmas.Bool.Decides.{Decides-and, Decides-eqb}
 use Rattle.std.proofs.lemmas.Slice.Eq.{slice_eq-Decides}

@@ -1,4 +1,4 @@
--- The walk from number to number builds a right list.
+-- The walk from number to number builds a right list. For `one_list_is_right` and crates above.
 use Rattle.std.proofs.Common.{◌≡◌, ◌≢◌, ℕ, zero, suc, ◌+◌, ◌≤◌, Bool, Option, Some, None, refl, ◌∙◌, ap, arith, inl, inr}
 use Rattle.std.proofs.lemmas.Bool.{cases_lt, cond_both}
 use Rattle.std.proofs.lemmas.Bool.Decides.{not_from_Decides}

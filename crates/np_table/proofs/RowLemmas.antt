@@ -1,4 +1,4 @@
--- Rows of a list: those that pass a test, and their ends.
+-- Rows of a list: those that pass a test, and their ends. For AddressRowLemmas, SaidLemmas and crates above.
 use Rattle.std.proofs.Common.{◌≡◌, ◌≢◌, ◌<◌, ◌≤◌, ◌+◌, ℕ, zero, suc, List, [], ◌∷◌, ◌++◌, Bool, true, false, All, Option, None, Some, map, flat_map, append-nil, if◌then◌else◌, arith, refl, ap, ◌∙◌, inl, inr}
 use Rattle.std.specs.Prelude.{filter}
 use Rattle.std.specs.List.{range_with_len}

@@ -1,4 +1,4 @@
--- Sets of connections, and the rows of them.
+-- Sets of connections, and the rows of them. For `Rows::next`, `add_row` and 7 more.
 use Rattle.std.proofs.Common.{◌≡◌, ◌≢◌, ◌≤◌, ℕ, List, [], ◌∷◌, ◌++◌, Bool, true, false, not, nat_le, Option, None, Some, Result, Ok, Err, IfOk, OnErr, OnOk, length, get_or, arith, refl, sym, ◌∙◌, subst}
 use Rattle.std.proofs.lemmas.Bool.{and_from, and_parts, both_ways, false_from_ne_true, leb-true, or_left, true≢false}
 use Rattle.np_table.specs.Types.{Family, Four, PortSpot, Proto, Range, RowKey, Sctp, Six, Tcp, Udp}

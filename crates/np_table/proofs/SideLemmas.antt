@@ -1,4 +1,4 @@
--- The sides of the pods that stand for workloads, and of those that stand for kinds.
+-- The sides of the pods that stand for workloads, and of those that stand for kinds. For `address_rows_by_kind`, `address_rows` and 8 more.
 use Rattle.std.proofs.Common.{◌≡◌, ◌<◌, ◌≤◌, ◌+◌, ◌-◌, ◌*◌, ◌^◌, ℕ, List, [], Bool, true, false, ◌&&◌, Some, None, length, lit≤, arith, refl, sym, ap, subst, ◌∙◌, if◌then◌else◌, ◌≢◌, Contains}
 use Rattle.np_table.specs.Types.{Direction, Egress, EstateLists, Family, Four, Ingress, PairEnds, PortSpot, Six}
 use Rattle.np_conns.specs.Conns.{Conns, IsConns, has_spot, is_spot}

@@ -1,4 +1,4 @@
--- Where no policy is listed no rule is looked at.
+-- Where no policy is listed no rule is looked at. For `counted_rows`.
 use Rattle.std.proofs.Common.{◌≡◌, ℕ, ◌+◌, ◌*◌, ◌≤◌, length, List, [], ◌∷◌, arith, map, refl}
 use Rattle.np_model.specs.declared.lists.EstateLists.{EstateLists}
 use Rattle.np_fold.specs.Workloads.{Folding, folding_of}

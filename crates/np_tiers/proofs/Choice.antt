@@ -1,4 +1,4 @@
--- A function at a choice.
+-- A function at a choice. For Tiers and Verdicts.
 use Rattle.std.proofs.Common.{◌≡◌, Bool, true, false, if◌then◌else◌, refl}
 
 pub at_choice : {A B : Type 0} (f : A → B) (b : Bool) (x y : A) → f (if b then x else y) ≡ (if b then f x else f y)

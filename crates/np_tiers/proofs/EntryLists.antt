@@ -1,4 +1,4 @@
--- Lists of marked sets, one after another.
+-- Lists of marked sets, one after another. For FirstMatch.
 use Rattle.std.proofs.Common.{◌≡◌, ◌≢◌, Bool, true, List, ◌++◌, ap, ◌∙◌, append_assoc, map, filter}
 use Rattle.std.proofs.lemmas.List.{map-append}
 use Rattle.std.proofs.lemmas.List.Elements.{All-append, All-weaker, filter-append}

@@ -1,4 +1,4 @@
--- What the marks at each spot say of each entry.
+-- What the marks at each spot say of each entry. For `carve`.
 use Rattle.std.proofs.Common.{◌≡◌, ◌≢◌, ◌⊎◌, ◌↔◌, ℕ, zero, suc, ◌<◌, Bool, true, false, IsTrue, List, [], ◌∷◌, ◌++◌, length, get_or, AllPairs, refl, sym, subst, ◌∙◌, inl, inr, arith}
 use Rattle.std.proofs.lemmas.Bool.{cases_order}
 use Rattle.np_tiers.specs.Entries.{mark_if}

@@ -1,4 +1,5 @@
 -- A loop that goes down a list and carves out the spots that each item is the first to have.
+-- For `carve_admin`, `carve_base` and `carve_net`.
 use Rattle.std.proofs.Common.{◌≡◌, ℕ, ◌+◌, ◌<◌, ◌≤◌, Bool, true, false, not, ◌&&◌, if◌then◌else◌, Option, Some, None, List, [], ◌∷◌, ◌++◌, length, get_or, drop, refl, sym, ap, ◌∙◌}
 use Rattle.std.proofs.lemmas.List.{drop_all}
 use Rattle.np_base.proofs.Lists.{drop-item}

@@ -1,4 +1,4 @@
--- The places that marks name.
+-- The places that marks name. For `carve_base` and `carve_net`.
 use Rattle.std.proofs.Common.{◌≡◌, ◌≢◌, ℕ, ◌+◌, ◌<◌, Option, Some, None, ap, subst, ◌∙◌, arith}
 use Rattle.np_tiers.specs.Types.{Admin, Base, Free, Isolated, Mark, Net}
 

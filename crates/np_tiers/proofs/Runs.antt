@@ -1,4 +1,4 @@
--- The run of a list of parts, by the runs of its two halves.
+-- The run of a list of parts, by the runs of its two halves. For `run_of`.
 use Rattle.std.proofs.Common.{◌≡◌, Bool, Option, is_some, List, ◌++◌, find, sym, ap, ◌∙◌, true, false, not}
 use Rattle.std.proofs.lemmas.List.Folds.{find-append}
 use Rattle.std.specs.Option.{option_map, option_or}

@@ -1,4 +1,4 @@
--- How each tier names what decides a spot.
+-- How each tier names what decides a spot. For `carve_admin`, `carve_base` and `carve_net`.
 use Rattle.std.proofs.Common.{ℕ, ◌+◌, Option, Some, find}
 use Rattle.std.specs.List.{position_from, enumerate_from}
 use Rattle.np_tiers.specs.Entries.{admin_place}

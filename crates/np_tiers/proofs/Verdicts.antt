@@ -1,4 +1,4 @@
--- What a mark says is what the walk says.
+-- What a mark says is what the walk says. For `allowed_is_union_of_carved`, `mark_says_what_the_walk_says` and crates above.
 use Rattle.std.proofs.Common.{◌≡◌, ℕ, suc, ◌+◌, Bool, true, false, ◌&&◌, ◌||◌, if◌then◌else◌, Option, Some, None, List, [], ◌∷◌, find, refl, sym, ap, ◌∙◌, inl, inr, arith}
 use Rattle.std.proofs.lemmas.Bool.{cases_Bool}
 use Rattle.std.specs.List.{list_any, slice_get, position_from}
