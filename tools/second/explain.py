@@ -1,4 +1,4 @@
-"""`explain`, `evaluate` and `unused`: what decides packets, and which rules decide none (np_explain, np_lint)."""
+"""`explain`, `evaluate` and `unused`: what decides packets, and which rules decide none (np_explain, np_unused)."""
 from typing import Dict, Iterator, List, Optional, Set, Tuple
 
 from .addresses import Address, address_text

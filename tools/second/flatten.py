@@ -1,4 +1,4 @@
-"""`flatten`: NetworkPolicies alone that give the verdicts of a whole estate (np_synth, np_manifests)."""
+"""`flatten`: NetworkPolicies alone that give the verdicts of a whole estate (np_flatten, np_manifests)."""
 from typing import Dict, Iterator, List, Optional, Tuple
 
 from .addresses import cidr_text, range_prefixes

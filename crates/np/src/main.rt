@@ -12,9 +12,9 @@ ghost use Rattle.np_command.specs.Statuses.{code_of};
 ghost use Rattle.np_command.specs.declared.status.Status.{Status as SpecStatus};
 ghost use Rattle.np_args.specs.CommandLines.{asked_by};
 
+use np_base::Steps;
 use np_cli::{Status, np_main};
 use np_io::{Inputs, RealInputs, RealSink, RealSystem, Sink};
-use np_steps::Steps;
 use std::alloc::Global;
 use std::io::{Stderr, Stdout};
 use std::marker::Brand;

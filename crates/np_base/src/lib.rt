@@ -1,5 +1,5 @@
 //! The types that everything else of `np` stands on: texts and lists that contracts see by their contents,
-//! points that are numbers in a range, and the laws of sets of spots.
+//! points that are numbers in a range, the laws of sets of spots, and a counter of steps that costs nothing at run time.
 #![tactic(auto)]
 
 mod beside;
@@ -11,6 +11,7 @@ mod point;
 mod port_num;
 mod range;
 mod seq;
+mod steps;
 mod text;
 mod try_copy;
 
@@ -23,5 +24,6 @@ pub use point::{Point, earlier, later};
 pub use port_num::PortNum;
 pub use range::Range;
 pub use seq::Seq;
+pub use steps::Steps;
 pub use text::Text;
 pub use try_copy::TryCopy;

@@ -7,11 +7,10 @@ ghost use Rattle.np_table.specs.Rows.{address_rows};
 ghost use Rattle.np_table.specs.Table.{estate_table};
 
 use np_addr::Family;
-use np_base::{NoMemory, Seq};
+use np_base::{NoMemory, Seq, Steps};
 use np_conns::ConnSet;
 use np_kinds::Sides;
 use np_model::Direction;
-use np_steps::Steps;
 use np_table::{AddressRow, address_rows_by_kind, set_by_kinds};
 use std::alloc::Global;
 use std::sync::ledger::{Blank, Ledger};

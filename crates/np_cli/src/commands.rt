@@ -8,7 +8,7 @@ ghost use Rattle.np_command_check.specs.Report.{statement_bytes};
 ghost use Rattle.np_model.specs.Lawful.{IsLawful};
 
 use np_args::Job;
-use np_base::{NoMemory, Seq};
+use np_base::{NoMemory, Seq, Steps};
 use np_command::Failure;
 use np_command_check::check_file;
 use np_command_evaluate::{PacketWords, evaluate};
@@ -24,7 +24,6 @@ use np_frame::{PreparedNotes, ReportNotes};
 use np_io::Sink;
 use np_model::Notes;
 use np_routes::route_notes;
-use np_steps::Steps;
 use std::alloc::Global;
 use std::sync::ledger::Ledger;
 

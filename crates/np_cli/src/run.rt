@@ -17,10 +17,10 @@ ghost use Rattle.np_args.specs.Jobs.{IsWell};
 use crate::commands::{reply, report_notes};
 use crate::outcome::{Ending, Outcome, status_of};
 use np_args::{Job, read_words};
+use np_base::Steps;
 use np_command::{Failure, Status};
 use np_frame::{names_of, read_all, read_objects};
 use np_io::{Inputs, Sink, write_whole};
-use np_steps::Steps;
 use std::alloc::Global;
 use std::sync::ledger::Ledger;
 

@@ -11,7 +11,7 @@ ghost use Rattle.np_rules.specs.model.Verdict.{IsEndOf};
 
 use np_addr::Family;
 use np_args::EndWord;
-use np_base::{NoMemory, Text};
+use np_base::{NoMemory, Steps, Text};
 use np_command::{Failure, Fault, end_text, family_asked};
 use np_conns::PortSpot;
 use np_fold::Folded;
@@ -19,7 +19,6 @@ use np_io::{Sink, write_whole};
 use np_model::{Estate, Pod};
 use np_report::family_suffix;
 use np_rules::{End, Packet, allows, said_text};
-use np_steps::Steps;
 use std::alloc::Global;
 use std::sync::ledger::Ledger;
 

@@ -14,7 +14,7 @@ ghost use Rattle.np_fold.specs.Workloads.{folding_of};
 
 use np_addr::{Address, Family};
 use np_args::EndWord;
-use np_base::{NoMemory, Seq, Text};
+use np_base::{NoMemory, Seq, Steps, Text};
 use np_command::{Failure, Fault, WriteFault, end_text, family_asked, workload_of};
 use np_conns::print_conns;
 use np_explain::{Explanation, Flow, Part, explain_sides, print_decider, same_sides};
@@ -23,7 +23,6 @@ use np_io::{BufferedSink, Sink};
 use np_model::{Direction, Estate};
 use np_report::family_suffix;
 use np_rules::{End, direction_text};
-use np_steps::Steps;
 use std::alloc::Global;
 use std::sync::ledger::Ledger;
 

@@ -11,7 +11,7 @@ ghost use Rattle.np_report.specs.Forms.{text_to_come};
 ghost use Rattle.np_kinds.specs.Between.{IsWorkload};
 
 use np_args::Format;
-use np_base::{NoMemory, Seq, Text};
+use np_base::{NoMemory, Seq, Steps, Text};
 use np_command::{Failure, Fault, WriteFault, workload_of};
 use np_conns::print_conns;
 use np_exposure::{ExposureFault, ExposureRow, MOST_PATTERNS, exposure, print_peer, weight};
@@ -20,7 +20,6 @@ use np_io::{BufferedSink, Sink};
 use np_kinds::first_place;
 use np_model::Direction;
 use np_report::{CsvForm, Form, JsonForm, RowText, TextForm, lines_of};
-use np_steps::Steps;
 use std::alloc::Global;
 use std::sync::ledger::Ledger;
 

@@ -4,8 +4,8 @@ use Rattle.std.specs.List.{filter_map, list_all, range_with_len, slice_get}
 use Rattle.std.specs.Option.{option_and_then, option_map_or}
 use Rattle.std.specs.Prelude.{AllPairs, IsPermutation}
 use Rattle.np_base.proofs.Lists.{count-none}
-use Rattle.np_chains.specs.Chains.{places, up}
-use Rattle.np_chains.proofs.Owned.{owns_itself-none}
+use Rattle.np_owners.specs.Chains.{places, up}
+use Rattle.np_owners.proofs.Owned.{owns_itself-none}
 use Rattle.np_reading.specs.Ends.{pods_from, pods_of}
 use Rattle.np_reading.specs.LeftOut.{count_left_out, is_for, is_left_out, left_out}
 use Rattle.np_reading.specs.Listed.{admin_policies_of, admin_policy, base_policy, baseline_of, first_equal, first_of, ingresses_from, ingresses_of, net_policies_of, net_policy, ranks_of, service}

@@ -40,15 +40,15 @@ use Rattle.np_labels.specs.declared.pair.Pair.{Pair}
 use Rattle.np_model.specs.WellObjects.{is_well_label, is_well_labels, is_well_ports}
 use Rattle.np_model.specs.WellPolicies.{is_well_selector, is_worded}
 use Rattle.np_rules.specs.model.Verdict.{no_pod}
-use Rattle.np_synth.proofs.AddressVerdicts.{IsWellSpan, rows-well}
-use Rattle.np_synth.proofs.KindGroups.{in_count}
-use Rattle.np_synth.proofs.ReceiverFacts.{group-first-in, groups-le}
-use Rattle.np_synth.specs.Faults.{family_of_list, set_in, set_of}
-use Rattle.np_synth.specs.Flat.{blocks_of_span, flat_name, flat_policies, flat_policy, group_namespace, group_peer, group_rows, group_selector, ingress_rules, ranges_of_span, receiver_in, rule_if}
-use Rattle.np_synth.specs.Flat.{rules_from_group, rules_from_groups, rules_of_addresses, rules_of_set, set_from}
-use Rattle.np_synth.specs.Groups.{first_of_group, group_count, group_firsts, relevant}
-use Rattle.np_synth.specs.Ports.{ports_of, span_of, spans_of_all}
-use Rattle.np_synth.specs.Selecting.{namespace_named, requirement_at, requirement_of_key}
+use Rattle.np_flatten.proofs.AddressVerdicts.{IsWellSpan, rows-well}
+use Rattle.np_flatten.proofs.KindGroups.{in_count}
+use Rattle.np_flatten.proofs.ReceiverFacts.{group-first-in, groups-le}
+use Rattle.np_flatten.specs.Faults.{family_of_list, set_in, set_of}
+use Rattle.np_flatten.specs.Flat.{blocks_of_span, flat_name, flat_policies, flat_policy, group_namespace, group_peer, group_rows, group_selector, ingress_rules, ranges_of_span, receiver_in, rule_if}
+use Rattle.np_flatten.specs.Flat.{rules_from_group, rules_from_groups, rules_of_addresses, rules_of_set, set_from}
+use Rattle.np_flatten.specs.Groups.{first_of_group, group_count, group_firsts, relevant}
+use Rattle.np_flatten.specs.Ports.{ports_of, span_of, spans_of_all}
+use Rattle.np_flatten.specs.Selecting.{namespace_named, requirement_at, requirement_of_key}
 use Rattle.np_kinds.proofs.PairLemmas.{pod_there, source-within}
 use Rattle.np_kinds.specs.Kinds.{first_end}
 use Rattle.np_table.specs.Rows.{address_rows, is_nothing}

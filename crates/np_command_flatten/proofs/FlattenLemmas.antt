@@ -8,10 +8,10 @@ use Rattle.np_command_flatten.specs.Report.{AreWorkloads, flatten_text, item_tex
 use Rattle.np_command_flatten.specs.Types.{Alike, EstateLists, FlatFault, NoMemory, Split}
 use Rattle.np_command_flatten.proofs.ListLemmas.{list_text-joined}
 use Rattle.np_manifests.specs.Lists.{policy_text}
-use Rattle.np_synth.specs.Faults.{fault_by, flat_fault, is_split, is_unlike}
-use Rattle.np_synth.specs.Flat.{flat_policies, flat_policy}
-use Rattle.np_synth.specs.Groups.{group_count}
-use Rattle.np_synth.specs.Pairs.{first_pair, pairs_below}
+use Rattle.np_flatten.specs.Faults.{fault_by, flat_fault, is_split, is_unlike}
+use Rattle.np_flatten.specs.Flat.{flat_policies, flat_policy}
+use Rattle.np_flatten.specs.Groups.{group_count}
+use Rattle.np_flatten.specs.Pairs.{first_pair, pairs_below}
 use Rattle.np_kinds.specs.Between.{number_of_workloads}
 
 -- ---- one policy after another

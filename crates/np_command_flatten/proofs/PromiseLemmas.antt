@@ -19,10 +19,10 @@ use Rattle.np_command_flatten.specs.Estates.{estate_with}
 use Rattle.np_manifests.specs.Lists.{list_line}
 use Rattle.np_model.specs.Lawful.{IsLawful}
 use Rattle.np_reading.specs.Reading.{estate_of}
-use Rattle.np_synth.proofs.FlatVerdicts.{addresses-same, pods-same}
-use Rattle.np_synth.specs.Faults.{fault_by, flat_fault, is_split, is_unlike}
-use Rattle.np_synth.specs.Flat.{flat_policies}
-use Rattle.np_synth.specs.Pairs.{first_pair}
+use Rattle.np_flatten.proofs.FlatVerdicts.{addresses-same, pods-same}
+use Rattle.np_flatten.specs.Faults.{fault_by, flat_fault, is_split, is_unlike}
+use Rattle.np_flatten.specs.Flat.{flat_policies}
+use Rattle.np_flatten.specs.Pairs.{first_pair}
 use Rattle.np_kinds.specs.Between.{number_of_workloads}
 
 -- ---- what is said

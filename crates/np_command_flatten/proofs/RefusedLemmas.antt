@@ -19,15 +19,15 @@ use Rattle.np_model.specs.Lawful.{IsLawful}
 use Rattle.np_model.specs.declared.pod.Pod.{Pod}
 use Rattle.np_rules.specs.model.Ends.{pod_end}
 use Rattle.np_rules.specs.model.Verdict.{no_pod, pod_at}
-use Rattle.np_synth.proofs.AddressVerdicts.{row_tells, rows-any}
-use Rattle.np_synth.proofs.GroupLemmas.{look_decides}
-use Rattle.np_synth.proofs.KindGroups.{kind-looks}
-use Rattle.np_synth.proofs.RefusedLemmas.{alike_differ, alike_is_first, alike_together, nothing_split, split_differs, split_is_first}
-use Rattle.np_synth.proofs.SplitLemmas.{families_cases}
-use Rattle.np_synth.specs.Faults.{family_of_list, first_family, flat_fault, is_defined}
-use Rattle.np_synth.specs.Groups.{are_together, look_alike, relevant}
-use Rattle.np_synth.specs.Refused.{AreFamiliesAlike as FamiliesPassAlike, AreTreatedAlike as WorkloadsPassAlike, PassTheSame}
-use Rattle.np_synth.specs.steps.Seen.{seen}
+use Rattle.np_flatten.proofs.AddressVerdicts.{row_tells, rows-any}
+use Rattle.np_flatten.proofs.GroupLemmas.{look_decides}
+use Rattle.np_flatten.proofs.KindGroups.{kind-looks}
+use Rattle.np_flatten.proofs.RefusedLemmas.{alike_differ, alike_is_first, alike_together, nothing_split, split_differs, split_is_first}
+use Rattle.np_flatten.proofs.SplitLemmas.{families_cases}
+use Rattle.np_flatten.specs.Faults.{family_of_list, first_family, flat_fault, is_defined}
+use Rattle.np_flatten.specs.Groups.{are_together, look_alike, relevant}
+use Rattle.np_flatten.specs.Refused.{AreFamiliesAlike as FamiliesPassAlike, AreTreatedAlike as WorkloadsPassAlike, PassTheSame}
+use Rattle.np_flatten.specs.steps.Seen.{seen}
 use Rattle.np_kinds.proofs.MemberLemmas.{destination-member, member-number, members-some, members-within, not-alone, own-member, source-member}
 use Rattle.np_kinds.proofs.PairLemmas.{between_pods-pair_allows, pair_allows-alone, pod_there, with_address-address_allows}
 use Rattle.np_table.proofs.RangeOneList.{walk-agrees}

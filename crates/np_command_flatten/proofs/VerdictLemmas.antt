@@ -12,7 +12,7 @@ use Rattle.np_rules.specs.model.Places.{net_places_of}
 use Rattle.np_rules.specs.model.Selection.{net_selects}
 use Rattle.np_rules.specs.model.Sides.{side_allows}
 use Rattle.np_rules.specs.model.Verdict.{allows, end_allows, pod_at}
-use Rattle.np_synth.proofs.OnePolicy.{any-flat_map}
+use Rattle.np_flatten.proofs.OnePolicy.{any-flat_map}
 use Rattle.np_kinds.specs.Between.{address_of, between_pods, with_address}
 
 -- whether some rule of a policy that selects the pod matches

@@ -10,8 +10,8 @@ use Rattle.np_model.specs.Families.{families_of}
 use Rattle.np_reading.specs.Reading.{estate_of}
 use Rattle.np_rules.specs.model.Ends.{pod}
 use Rattle.np_rules.specs.model.Verdict.{pod_at}
-use Rattle.np_synth.specs.Groups.{look_alike, relevant}
-use Rattle.np_synth.specs.Refused.{ComesBefore}
+use Rattle.np_flatten.specs.Groups.{look_alike, relevant}
+use Rattle.np_flatten.specs.Refused.{ComesBefore}
 use Rattle.np_table.specs.Said.{IsInFamily}
 use Rattle.np_kinds.specs.Between.{between_pods, with_address}
 

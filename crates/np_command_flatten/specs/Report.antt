@@ -4,8 +4,8 @@ use Rattle.np_command_flatten.specs.Types.{Alike, EstateLists, Fault, FlatFault,
 use Rattle.np_command.specs.declared.fault.Fault.TheVariants as fault
 use Rattle.np_fold.specs.Workloads.{folding_of, name_of}
 use Rattle.np_manifests.specs.Lists.{list_line, policy_text}
-use Rattle.np_synth.specs.Faults.{flat_fault}
-use Rattle.np_synth.specs.Flat.{flat_policies, flat_policy}
+use Rattle.np_flatten.specs.Faults.{flat_fault}
+use Rattle.np_flatten.specs.Flat.{flat_policies, flat_policy}
 use Rattle.np_kinds.specs.Between.{IsWorkload}
 
 -- the policies of all groups as one line

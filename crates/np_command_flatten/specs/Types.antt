@@ -22,6 +22,6 @@ pub use Rattle.np_model.specs.declared.network_policy.NetPort.TheVariants.{Named
 pub use Rattle.np_model.specs.declared.network_policy.NetRule.{NetRule}
 pub use Rattle.np_items.specs.declared.item.Item.{Item}
 pub use Rattle.np_table.specs.declared.rows.AddressRow.{AddressRow}
-pub use Rattle.np_synth.specs.declared.fault.FlatFault.{FlatFault}
-pub use Rattle.np_synth.specs.declared.fault.FlatFault.TheVariants.{Alike, NoMemory, Split}
+pub use Rattle.np_flatten.specs.declared.fault.FlatFault.{FlatFault}
+pub use Rattle.np_flatten.specs.declared.fault.FlatFault.TheVariants.{Alike, NoMemory, Split}
 pub use Rattle.np_command.specs.declared.fault.Fault.{Fault}

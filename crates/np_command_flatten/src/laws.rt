@@ -9,7 +9,7 @@ ghost use Rattle.np_command_flatten.specs.Estates.{AreApart, estate_with, net_it
 ghost use Rattle.np_manifests.specs.Lists.{list_line, list_text, policy_text};
 ghost use Rattle.np_command_flatten.specs.Printable.{is_printable};
 ghost use Rattle.np_model.specs.declared.network_policy.NetPolicy.{NetPolicy};
-ghost use Rattle.np_synth.specs.Flat.{flat_policies};
+ghost use Rattle.np_flatten.specs.Flat.{flat_policies};
 
 use np_manifests::{LIST_END, LIST_FRONT, LIST_SEPARATOR};
 

@@ -4,15 +4,14 @@ ghost use Rattle.np_command.specs.Prints.{Wrote};
 ghost use Rattle.np_command.specs.Sinks.{sunk};
 ghost use Rattle.np_command.specs.Written.{Writes};
 ghost use Rattle.np_command_flatten.specs.Report as spec;
-ghost use Rattle.np_synth.specs.Groups.{group_count};
+ghost use Rattle.np_flatten.specs.Groups.{group_count};
 
-use np_base::{NoMemory, Text};
+use np_base::{NoMemory, Steps, Text};
 use np_command::{Failure, Fault, WriteFault};
+use np_flatten::{Flat, FlatFault, flatten};
 use np_fold::Folded;
 use np_io::{BufferedSink, Sink};
 use np_manifests::{LIST_END, LIST_FRONT, LIST_SEPARATOR, print_policy};
-use np_steps::Steps;
-use np_synth::{Flat, FlatFault, flatten};
 use std::alloc::Global;
 use std::sync::ledger::Ledger;
 

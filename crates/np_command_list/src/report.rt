@@ -13,13 +13,12 @@ ghost use Rattle.np_routes.specs.ClusterTable.{cluster_rows, cluster_table};
 ghost use Rattle.np_kinds.specs.Between.{IsWorkload};
 
 use np_args::Format;
-use np_base::{NoMemory, Text};
+use np_base::{NoMemory, Steps, Text};
 use np_command::{Failure, WriteFault, workload_of};
 use np_fold::Folded;
 use np_io::{BufferedSink, Sink};
 use np_report::{CsvForm, FocusSide, Form, JsonForm, Query, Report, TextForm, keeps, row_text};
 use np_routes::ClusterRows;
-use np_steps::Steps;
 use np_table::Row;
 use std::alloc::Global;
 use std::sync::ledger::Ledger;

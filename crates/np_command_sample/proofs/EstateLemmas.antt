@@ -4,8 +4,8 @@ use Rattle.std.specs.List.{AllByRecursion, cons_option, filter_map, range_with_l
 use Rattle.std.specs.Option.{option_and_then, option_map_or, option_to_list}
 use Rattle.std.proofs.lemmas.List.Elements.{filter_map-append}
 use Rattle.np_base.proofs.Lists.{count-none}
-use Rattle.np_chains.specs.Chains.{places, up}
-use Rattle.np_chains.proofs.Owned.{owns_itself-none}
+use Rattle.np_owners.specs.Chains.{places, up}
+use Rattle.np_owners.proofs.Owned.{owns_itself-none}
 use Rattle.np_reading.specs.Ends.{listed_pod, pod_at_item, pods_from, context}
 use Rattle.np_reading.specs.LeftOut.{count_left_out, is_for, is_left_out, left_out}
 use Rattle.np_reading.specs.Namespaces.{labels_in, listed_labels, name_label, namespace_name}

@@ -5,13 +5,12 @@ ghost use Rattle.np_command.specs.Prints.{Wrote};
 ghost use Rattle.np_command.specs.Sinks.{sunk};
 ghost use Rattle.np_command_sample.specs.Report as spec;
 
-use np_base::NoMemory;
+use np_base::{NoMemory, Steps};
 use np_command::Failure;
 use np_fold::Folded;
 use np_io::{Sink, write_whole};
 use np_report::Tally;
 use np_routes::ClusterRows;
-use np_steps::Steps;
 use std::alloc::Global;
 use std::sync::ledger::Ledger;
 

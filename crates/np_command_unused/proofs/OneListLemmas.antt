@@ -4,9 +4,9 @@ use Rattle.np_addr.proofs.SameLists.{same_elements_same_lists}
 use Rattle.np_command.specs.Sinks.{SinkTrace}
 use Rattle.np_command_unused.specs.Promise.{DecidesNothing, ListsUnused}
 use Rattle.np_command_unused.specs.Report.{rule_line}
-use Rattle.np_lint.specs.Order.{StandsBefore}
-use Rattle.np_lint.specs.Rules.{IsRuleOf}
-use Rattle.np_lint.specs.declared.rule_ref.RuleRef.{RuleRef}
+use Rattle.np_unused.specs.Order.{StandsBefore}
+use Rattle.np_unused.specs.Rules.{IsRuleOf}
+use Rattle.np_unused.specs.declared.rule_ref.RuleRef.{RuleRef}
 use Rattle.np_model.specs.declared.lists.EstateLists.{EstateLists}
 
 -- ---- the order of rules

@@ -2,17 +2,17 @@
 use Rattle.std.specs.Prelude.{All, Contains}
 use Rattle.std.proofs.lemmas.List.Elements.{All-contains_itself, All-weaker}
 use Rattle.np_model.specs.declared.lists.EstateLists.{EstateLists}
-use Rattle.np_lint.proofs.LawLemmas.{unused_is, decide_nothing}
-use Rattle.np_lint.specs.Rules.{IsRuleOf}
-use Rattle.np_lint.specs.Used.{unused_of}
+use Rattle.np_unused.proofs.LawLemmas.{unused_is, decide_nothing}
+use Rattle.np_unused.specs.Rules.{IsRuleOf}
+use Rattle.np_unused.specs.Used.{unused_of}
 use Rattle.std.proofs.Common.{◌≡◌, ℕ, List, Ok}
 use Rattle.np_command.specs.Inputs.{lists_of}
 use Rattle.np_command.specs.Sinks.{SinkTrace, TookWhole}
 use Rattle.np_command_unused.specs.Promise.{ListsUnused}
 use Rattle.np_command_unused.specs.Report.{unused_text}
 use Rattle.np_model.specs.Lawful.{IsLawful}
-use Rattle.np_lint.proofs.AllowLemmas.{change_nothing}
-use Rattle.np_lint.proofs.OrderLemmas.{unused_in_order}
+use Rattle.np_unused.proofs.AllowLemmas.{change_nothing}
+use Rattle.np_unused.proofs.OrderLemmas.{unused_in_order}
 
 -- an unused rule is one of the estate
 pub unused_rules_of : (lists : EstateLists) → All (IsRuleOf lists) (unused_of lists)

@@ -7,11 +7,11 @@ use Rattle.np_command_unused.specs.Report.{rule_line}
 use Rattle.np_conns.specs.declared.port_spot.PortSpot.{PortSpot}
 use Rattle.np_model.specs.declared.lists.EstateLists.{EstateLists}
 use Rattle.np_explain.specs.Sides.{packet_between}
-use Rattle.np_lint.specs.Order.{StandsBefore}
-use Rattle.np_lint.specs.Rules.{IsRuleOf}
-use Rattle.np_lint.specs.Used.{IsListedPacket, StandsIn}
-use Rattle.np_lint.specs.Without.{without}
-use Rattle.np_lint.specs.declared.rule_ref.RuleRef.{RuleRef}
+use Rattle.np_unused.specs.Order.{StandsBefore}
+use Rattle.np_unused.specs.Rules.{IsRuleOf}
+use Rattle.np_unused.specs.Used.{IsListedPacket, StandsIn}
+use Rattle.np_unused.specs.Without.{without}
+use Rattle.np_unused.specs.declared.rule_ref.RuleRef.{RuleRef}
 use Rattle.np_rules.specs.model.Verdict.{allows}
 use Rattle.np_rules.specs.declared.packet.End.{End}
 

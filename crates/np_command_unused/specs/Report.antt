@@ -1,9 +1,9 @@
 -- `unused`: the rules that decide nothing.
 use Rattle.std.specs.Prelude.{ℕ, List, ◌++◌, codes, flat_map}
 use Rattle.np_model.specs.declared.lists.EstateLists.{EstateLists}
-use Rattle.np_lint.specs.Rules.{rule_text}
-use Rattle.np_lint.specs.Used.{unused_of}
-use Rattle.np_lint.specs.declared.rule_ref.RuleRef.{RuleRef}
+use Rattle.np_unused.specs.Rules.{rule_text}
+use Rattle.np_unused.specs.Used.{unused_of}
+use Rattle.np_unused.specs.declared.rule_ref.RuleRef.{RuleRef}
 
 abbrev pub rule_line : EstateLists → RuleRef → List ℕ
 rule_line lists rule = rule_text lists rule ++ codes "\n"

@@ -3,15 +3,14 @@ ghost use Rattle.std.specs.Prelude.{◌≡◌, ◌≤◌, All, IfOk, Ok, flat_ma
 ghost use Rattle.np_command.specs.Prints.{Wrote};
 ghost use Rattle.np_command.specs.Sinks.{sunk};
 ghost use Rattle.np_command_unused.specs.Report as spec;
-ghost use Rattle.np_lint.specs.Rules.{IsRuleOf};
+ghost use Rattle.np_unused.specs.Rules.{IsRuleOf};
 
-use np_base::NoMemory;
+use np_base::{NoMemory, Steps};
 use np_command::Failure;
 use np_fold::Folded;
 use np_io::{Sink, write_whole};
-use np_lint::{RuleRef, print_rule, unused_rules};
 use np_model::Estate;
-use np_steps::Steps;
+use np_unused::{RuleRef, print_rule, unused_rules};
 use std::alloc::Global;
 use std::sync::ledger::Ledger;
 

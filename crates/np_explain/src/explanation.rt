@@ -11,11 +11,10 @@ ghost use Rattle.np_rules.specs.model.Verdict.{IsEndOf};
 use crate::explaining::explain;
 use crate::flow::Flow;
 use crate::part::Part;
-use np_base::{Cells, NoMemory, Seq};
+use np_base::{Cells, NoMemory, Seq, Steps};
 use np_conns::ConnSet;
 use np_model::{Direction, Estate};
 use np_rules::Decider;
-use np_steps::Steps;
 use std::alloc::Global;
 use std::sync::ledger::Ledger;
 

@@ -23,10 +23,9 @@ use crate::sided_requirement::SidedRequirement;
 use crate::step::Left;
 use crate::walk::rows_of;
 use crate::weights::weight_of;
-use np_base::{NoMemory, Seq};
+use np_base::{NoMemory, Seq, Steps};
 use np_model::{Direction, Estate};
 use np_rules::StrangerRules;
-use np_steps::Steps;
 use std::alloc::Global;
 use std::sync::ledger::Ledger;
 

@@ -11,7 +11,7 @@ use Rattle.std.proofs.lemmas.List.{reverse-append}
 use Rattle.std.proofs.lemmas.List.Folds.{find_at}
 use Rattle.std.proofs.lemmas.List.Quantifiers.{position-Some}
 use Rattle.std.proofs.lemmas.Option.{option_and_then_some, slice_get-get_or, slice_get-map, slice_get_past}
-use Rattle.np_chains.specs.Chains.{chain, last_of, top, up}
+use Rattle.np_owners.specs.Chains.{chain, last_of, top, up}
 use Rattle.np_reading.proofs.LawfulNamespaces.{value_of-namespace_labels, HasNamespaceLabels}
 use Rattle.np_reading.proofs.LawfulReading.{pods_have_namespace_labels}
 use Rattle.np_reading.proofs.ReadingLemmas.{estate_of-passed}

@@ -12,9 +12,9 @@ use Rattle.std.proofs.lemmas.Bool.{eqb-true, false≢true, true≢false}
 use Rattle.std.proofs.lemmas.List.Folds.{list_any-append}
 use Rattle.std.proofs.lemmas.List.Quantifiers.{position-Some}
 use Rattle.std.proofs.lemmas.Option.{none-some, option_and_then_some, same_Some, slice_get-get_or, slice_get-map, slice_get_within}
-use Rattle.np_chains.specs.Chains.{chain, first_cycle, last_of, owners, top, up, IsChains}
-use Rattle.np_chains.proofs.Ends.{up-top}
-use Rattle.np_chains.proofs.Walks.{chain_none}
+use Rattle.np_owners.specs.Chains.{chain, first_cycle, last_of, owners, top, up, IsChains}
+use Rattle.np_owners.proofs.Ends.{up-top}
+use Rattle.np_owners.proofs.Walks.{chain_none}
 use Rattle.np_meaning.specs.Types.{ControllerItem, Item, ObjectName, OwnerRef}
 use Rattle.np_items.specs.declared.item.Item.TheVariants as item
 use Rattle.np_objects.specs.ControllerKinds.{is_controller_kind, kind_name}

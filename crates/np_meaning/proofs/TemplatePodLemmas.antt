@@ -10,7 +10,7 @@ use Rattle.std.proofs.lemmas.List.{length-map}
 use Rattle.std.proofs.lemmas.List.Folds.{Any-from_list_any, list_any_at}
 use Rattle.std.proofs.lemmas.List.FromFn.{get_or-range_with_len, length-range_with_len}
 use Rattle.std.proofs.lemmas.Option.{none-some, same_Some, slice_get_within}
-use Rattle.np_chains.specs.Chains.{first_cycle, is_at_or_over, is_marked, owners, places, IsChains}
+use Rattle.np_owners.specs.Chains.{first_cycle, is_at_or_over, is_marked, owners, places, IsChains}
 use Rattle.np_meaning.specs.Types.{ControllerItem, EstateLists, Item, PodItem}
 use Rattle.np_items.specs.declared.item.Item.TheVariants as item
 use Rattle.np_objects.specs.declared.object.Object.TheVariants as object

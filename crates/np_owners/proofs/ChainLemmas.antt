@@ -8,7 +8,7 @@ use Rattle.std.proofs.lemmas.List.{get_or-map, length-map, take_more, map-append
 use Rattle.std.proofs.lemmas.List.Quantifiers.{position-Some}
 use Rattle.std.proofs.lemmas.Option.{option_and_then_some, slice_get_read}
 use Rattle.std.proofs.lemmas.Simd.{map-map}
-use Rattle.np_chains.specs.Chains.{IsChains, first_cycle, top, places}
+use Rattle.np_owners.specs.Chains.{IsChains, first_cycle, top, places}
 use Rattle.np_owners.specs.Types.{Item, ObjectName, Owner, OwnerRef}
 use Rattle.np_owners.specs.Names.{name_of, is_named, place_of}
 use Rattle.np_owners.specs.Owners.{owner_of, controller_place, place_in_namespace, owner_place, ups, full_name_of, first_in_cycle, last_owner, top_owners}

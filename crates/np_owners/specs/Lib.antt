@@ -1,4 +1,5 @@
+pub mod Chains
+pub mod MadePods
 pub mod Names
 pub mod Owners
-pub mod MadePods
 pub mod Types

@@ -2,7 +2,7 @@
 use Rattle.std.specs.Prelude.{ℕ, List, length, map, Bool, true, false, ◌&&◌, not, is_some, is_none}
 use Rattle.std.specs.List.{range_with_len, slice_get}
 use Rattle.std.specs.Option.{option_map_or}
-use Rattle.np_chains.specs.Chains.{is_over_some}
+use Rattle.np_owners.specs.Chains.{is_over_some}
 use Rattle.np_owners.specs.Types.{Item}
 use Rattle.np_items.specs.declared.item.Item.TheVariants as item
 use Rattle.np_objects.specs.declared.object.Object.TheVariants as object

@@ -2,7 +2,7 @@
 use Rattle.std.specs.Prelude.{◌≡◌, ℕ, List, [], ◌++◌, length, map, if◌then◌else◌, Option, Some, None, ⊤, codes}
 use Rattle.std.specs.List.{range_with_len, slice_get}
 use Rattle.std.specs.Option.{option_and_then, option_map, option_map_or, option_or}
-use Rattle.np_chains.specs.Chains.{first_cycle, top}
+use Rattle.np_owners.specs.Chains.{first_cycle, top}
 use Rattle.np_owners.specs.Types.{Item, ObjectName, Owner, OwnerRef}
 use Rattle.np_items.specs.declared.item.Item.TheVariants as item
 use Rattle.np_objects.specs.ControllerKinds.{is_controller_kind}

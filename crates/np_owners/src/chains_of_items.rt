@@ -4,12 +4,12 @@ ghost use Rattle.np_owners.specs.Names.{HoldsPlaces};
 ghost use Rattle.np_items.specs.declared.item.Item.{Item};
 ghost use Rattle.np_owners.specs.Owners as owners;
 
+use crate::chains::Chains;
 use crate::fault::ChainsFault;
 use crate::object_name::{ObjectName, name_of};
 use crate::owner_refs::owner_of;
 use crate::places::Places;
 use np_base::{NoMemory, Text};
-use np_chains::Chains;
 use np_items::Item;
 use np_objects::{OwnerRef, is_controller_kind};
 use std::alloc::Global;

@@ -3,8 +3,8 @@ ghost use Rattle.std.specs.Prelude.{◌≡◌, map, ◌&&◌, not, IfOk};
 ghost use Rattle.np_owners.specs.MadePods as spec;
 ghost use Rattle.np_owners.specs.Owners.{ups};
 
+use crate::chains::Chains;
 use np_base::NoMemory;
-use np_chains::Chains;
 use np_items::Item;
 use np_objects::Object;
 use std::alloc::Global;

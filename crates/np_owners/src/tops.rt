@@ -2,10 +2,10 @@
 ghost use Rattle.std.specs.Prelude.{◌≡◌, IfOk};
 ghost use Rattle.np_owners.specs.Owners as owners;
 
+use crate::chains::Chains;
 use crate::object_name::name_of;
 use crate::owner_refs::owner_of;
 use np_base::NoMemory;
-use np_chains::Chains;
 use np_items::Item;
 use np_model::Owner;
 use std::alloc::Global;

@@ -5,7 +5,7 @@ use Rattle.std.specs.List.{slice_get}
 use Rattle.std.proofs.lemmas.Bool.{and_from, and_parts}
 use Rattle.std.specs.Option.{option_map, option_or}
 use Rattle.std.proofs.lemmas.Option.{none-some, same_Some, option_and_then_some}
-use Rattle.np_chains.specs.Chains.{top}
+use Rattle.np_owners.specs.Chains.{top}
 use Rattle.np_reading.proofs.LawfulNamespaces.{well_at}
 use Rattle.np_items.specs.WellFormed.{IsWellItem}
 use Rattle.np_reading.specs.Types.{Item, ObjectName, Owner, OwnerRef}

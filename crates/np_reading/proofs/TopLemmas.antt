@@ -5,8 +5,8 @@ use Rattle.std.specs.Prelude.{codes, option_map, unwrap_or}
 use Rattle.std.specs.List.{slice_get}
 use Rattle.std.specs.Option.{option_flatten, option_or}
 use Rattle.std.proofs.lemmas.Option.{slice_get-map}
-use Rattle.np_chains.proofs.Walks.{chain_none}
-use Rattle.np_chains.specs.Chains.{last_of, top, up}
+use Rattle.np_owners.proofs.Walks.{chain_none}
+use Rattle.np_owners.specs.Chains.{last_of, top, up}
 use Rattle.np_reading.specs.TopOwners.{named_or_itself}
 use Rattle.np_reading.specs.Types.{Item, OwnerRef, PodItem}
 use Rattle.np_items.specs.declared.item.Item.TheVariants as item

@@ -13,10 +13,9 @@ use crate::left_out::{LeftOut, count_left_out, unaddressed};
 use crate::priorities::refuse_equal_priorities;
 use crate::refusal::Refusal;
 use np_base::{NoMemory, Seq};
-use np_chains::Chains;
 use np_items::{Item, read_items};
 use np_model::{Estate, EstateLists, Notes};
-use np_owners::{Places, chains_of, made_pods, top_owners};
+use np_owners::{Chains, Places, chains_of, made_pods, top_owners};
 use std::alloc::Global;
 
 /// The estate that the inputs list, all together, or the first refusal.

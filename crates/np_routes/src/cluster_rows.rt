@@ -9,9 +9,8 @@ ghost use Rattle.np_kinds.specs.Between.{IsWorkload};
 ghost use Rattle.np_table.specs.ToCome.{most_rules};
 
 use crate::routes::Routes;
-use np_base::{Cells, NoMemory};
+use np_base::{Cells, NoMemory, Steps};
 use np_fold::Folded;
-use np_steps::Steps;
 use np_table::{Row, RowEnd, RowKey, Rows};
 use std::alloc::Global;
 use std::marker::Model;

@@ -10,14 +10,13 @@ ghost use Rattle.np_table.specs.PairRules.{AreEnds};
 ghost use Rattle.np_kinds.specs.Between.{IsWorkload, between_pods};
 
 use np_addr::Family;
-use np_base::{NoMemory, Seq, Text, join_all};
+use np_base::{NoMemory, Seq, Steps, Text, join_all};
 use np_conns::ConnSet;
 use np_fold::Folded;
 use np_kinds::first_side;
 use np_labels::{Labels, Pair};
 use np_model::Direction;
 use np_rules::{PodRules, Stranger};
-use np_steps::Steps;
 use np_table::set_between;
 use np_tiers::verdict_set;
 use std::alloc::Global;

@@ -12,8 +12,8 @@ ghost use Rattle.np_rules.specs.Views.{pod_view, contact_view};
 use crate::rules::admin_rule_matches;
 use crate::selection::subject_selects;
 use crate::views::{ContactView, PodView};
+use np_base::Steps;
 use np_model::{Action, AdminPolicy, AdminRule, Direction};
-use np_steps::Steps;
 use std::sync::ledger::Ledger;
 
 /// What the rule says that decides, and `None` where no rule matches. All rules of the policies that select the pod are

@@ -9,8 +9,8 @@ ghost use Rattle.np_rules.specs.Views.{pod_view, contact_view};
 use crate::admin_tier::first_action;
 use crate::selection::subject_selects;
 use crate::views::{ContactView, PodView};
+use np_base::Steps;
 use np_model::{Action, AdminRule, BasePolicy, Direction};
-use np_steps::Steps;
 use std::sync::ledger::Ledger;
 
 /// What the rule of the baseline says that decides, and `None` where none matches. All rules of a baseline that selects

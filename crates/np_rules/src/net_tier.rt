@@ -11,8 +11,8 @@ ghost use Rattle.np_rules.specs.Views.{pod_view, contact_view};
 use crate::rules::net_rule_matches;
 use crate::selection::net_selects;
 use crate::views::{ContactView, PodView};
+use np_base::Steps;
 use np_model::{Direction, NetPolicy, NetRule};
-use np_steps::Steps;
 use std::sync::ledger::Ledger;
 
 /// Whether some policy isolates the pod.

@@ -1,8 +1,8 @@
 //! The rules that speak of a pod, one after another.
 ghost use Rattle.std.specs.Prelude.{◌≡◌, ◌+◌, length};
 
+use np_base::Steps;
 use np_model::{AdminRule, NetRule};
-use np_steps::Steps;
 use std::sync::ledger::Ledger;
 
 /// The rules that speak of a pod in a direction, tier by tier, and whether some NetworkPolicy isolates the pod.

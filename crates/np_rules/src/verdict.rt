@@ -12,9 +12,9 @@ use crate::base_tier::base_action;
 use crate::net_tier::{is_isolated, permits};
 use crate::packet::{End, Packet};
 use crate::views::{ContactView, EndView, PodView, view_of_pod};
+use np_base::Steps;
 use np_conns::PortSpot;
 use np_model::{Action, Direction, Estate};
-use np_steps::Steps;
 use std::sync::ledger::Ledger;
 
 /// Whether a packet is allowed: by the egress side of its source, if that is a pod, and by the ingress side of its

@@ -13,13 +13,12 @@ ghost use Rattle.np_table.specs.Right.{conns_of};
 ghost use Rattle.np_table.specs.steps.PairSides.{ends_of};
 
 use np_addr::Family;
-use np_base::{Cells, NoMemory};
+use np_base::{Cells, NoMemory, Steps};
 use np_conns::ConnSet;
 use np_fold::{Folded, Workloads};
 use np_kinds::Sides;
 use np_model::Direction;
 use np_rules::PodRules;
-use np_steps::Steps;
 use np_tiers::verdict_set;
 use std::alloc::Global;
 use std::sync::ledger::Ledger;

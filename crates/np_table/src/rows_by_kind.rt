@@ -12,11 +12,10 @@ ghost use Rattle.np_table.specs.ToCome.{due_for_kinds, most_rules};
 use crate::row_cache::RowCache;
 use crate::rows::Row;
 use crate::rows_of_pairs::{pair_key, rows_between};
-use np_base::{NoMemory, Seq};
+use np_base::{NoMemory, Seq, Steps};
 use np_fold::Workloads;
 use np_kinds::{KindReach, Sides};
 use np_model::Direction;
-use np_steps::Steps;
 use std::alloc::Global;
 use std::sync::ledger::Ledger;
 

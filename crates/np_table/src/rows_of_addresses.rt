@@ -10,14 +10,13 @@ ghost use Rattle.np_kinds.specs.Between.{IsWorkload};
 ghost use Rattle.np_table.specs.Table.{estate_table};
 
 use crate::rows::{AddressRow, AddressSpan};
-use np_base::{Cells, NoMemory, Range, Seq, V4, V6};
+use np_base::{Cells, NoMemory, Range, Seq, Steps, V4, V6};
 use np_conns::ConnSet;
 use np_fold::Folded;
 use np_kinds::{Sides, first_side};
 use np_model::Direction;
 use np_pieces::Piece;
 use np_rules::{AddrConns, PodRules};
-use np_steps::Steps;
 use std::alloc::Global;
 use std::sync::ledger::Ledger;
 

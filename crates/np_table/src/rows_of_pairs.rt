@@ -10,11 +10,10 @@ ghost use Rattle.np_table.specs.Table.{estate_table};
 use crate::pair_sets::{rules_of_pair, set_between};
 use crate::rows::{Row, RowEnd, RowKey};
 use np_addr::Family;
-use np_base::{Cells, NoMemory, Seq};
+use np_base::{Cells, NoMemory, Seq, Steps};
 use np_conns::ConnSet;
 use np_fold::Folded;
 use np_rules::PodRules;
-use np_steps::Steps;
 use std::alloc::Global;
 use std::sync::ledger::Ledger;
 

@@ -2,13 +2,12 @@
 
 use crate::asked::{Question, expect_answer};
 use np_addr::Family;
-use np_base::{NoMemory, Seq, Text};
+use np_base::{NoMemory, Seq, Steps, Text};
 use np_conns::print_conns;
 use np_explain::{Flow, Part, explain, print_decider};
 use np_fold::Folded;
 use np_model::Direction;
 use np_rules::{Decider, End, PolicyNames};
-use np_steps::Steps;
 use std::alloc::Global;
 use std::process::Abort;
 use std::sync::ledger::Ledger;

@@ -1,11 +1,10 @@
 //! What pods that nobody has written yet could reach, and be reached by.
 
 use crate::asked::{Question, expect_answer};
-use np_base::NoMemory;
+use np_base::{NoMemory, Steps};
 use np_conns::print_conns;
 use np_exposure::{ExposureFault, ExposureRow, exposure, print_peer, weight};
 use np_model::{Direction, Estate};
-use np_steps::Steps;
 use std::alloc::Global;
 use std::sync::ledger::Ledger;
 

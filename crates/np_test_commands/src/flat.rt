@@ -1,11 +1,10 @@
 //! NetworkPolicies that alone give the verdicts of all policies, as JSON.
 
 use crate::asked::{Question, expect_answer};
-use np_base::NoMemory;
+use np_base::{NoMemory, Steps};
+use np_flatten::{Flat, flatten};
 use np_fold::Folded;
 use np_manifests::print_policy;
-use np_steps::Steps;
-use np_synth::{Flat, flatten};
 use std::alloc::Global;
 use std::str::from_utf8;
 use std::sync::ledger::Ledger;

@@ -1,12 +1,11 @@
 //! What comes to workloads through Ingresses.
 
 use crate::asked::{Question, expect_answer};
-use np_base::NoMemory;
+use np_base::{NoMemory, Steps};
 use np_conns::{ConnSet, print_conns};
 use np_fold::Folded;
 use np_model::Estate;
 use np_routes::{ingress_set, route_notes};
-use np_steps::Steps;
 use std::alloc::Global;
 use std::sync::ledger::Ledger;
 

@@ -1,13 +1,12 @@
 //! The rules that decide nothing.
 ghost use Rattle.std.specs.Prelude.{All};
-ghost use Rattle.np_lint.specs.Rules.{IsRuleOf};
+ghost use Rattle.np_unused.specs.Rules.{IsRuleOf};
 
 use crate::asked::{Question, expect_answer};
-use np_base::NoMemory;
+use np_base::{NoMemory, Steps};
 use np_fold::Folded;
-use np_lint::{RuleRef, print_rule, unused_rules};
 use np_model::Estate;
-use np_steps::Steps;
+use np_unused::{RuleRef, print_rule, unused_rules};
 use std::alloc::Global;
 use std::sync::ledger::Ledger;
 

@@ -1,9 +1,8 @@
 //! What a side lets pass at all addresses.
 
 use crate::layers::expect_conns;
-use np_base::{Cells, Point};
+use np_base::{Cells, Point, Steps};
 use np_rules::{AddrConns, PodRules};
-use np_steps::Steps;
 use np_tiers::{Layer, verdict_set};
 use std::alloc::Global;
 use std::process::Abort;

@@ -2,9 +2,8 @@
 ghost use Rattle.std.specs.Prelude.{◌≡◌, ◌≤◌, ◌+◌};
 ghost use Rattle.np_test_fold.specs.Rules.{HasNoPolicies, due_for_all};
 
-use np_base::NoMemory;
+use np_base::{NoMemory, Steps};
 use np_fold::Folded;
-use np_steps::Steps;
 use np_table::Rows;
 use std::alloc::Global;
 use std::sync::ledger::Ledger;

@@ -8,9 +8,8 @@ use crate::rows::{are_address_rows_right, are_pair_rows_right, is_pair_set_right
 use crate::sides::{expect_kinds, is_first_side_right, is_reach_right};
 use crate::traits::expect_traits;
 use crate::workloads::are_workloads_right;
-use np_base::NoMemory;
+use np_base::{NoMemory, Steps};
 use np_fold::Folded;
-use np_steps::Steps;
 use std::alloc::Global;
 use std::marker::Brand;
 use std::process::Abort;

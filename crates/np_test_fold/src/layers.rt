@@ -2,9 +2,9 @@
 ghost use Rattle.std.specs.Prelude.{◌≡◌, length};
 
 use np_addr::{Family, read_address};
+use np_base::Steps;
 use np_conns::{ConnSet, print_conns};
 use np_rules::PodRules;
-use np_steps::Steps;
 use np_tiers::{Layer, verdict_set};
 use std::alloc::Global;
 use std::process::Abort;

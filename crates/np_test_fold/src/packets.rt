@@ -2,11 +2,10 @@
 ghost use Rattle.std.specs.Prelude.{◌≡◌, length};
 
 use np_addr::Family;
-use np_base::PortNum;
+use np_base::{PortNum, Steps};
 use np_conns::{PortSpot, Proto};
 use np_model::Estate;
 use np_rules::{End, Packet, allows, said_text};
-use np_steps::Steps;
 use std::alloc::Global;
 use std::process::Abort;
 use std::sync::ledger::Ledger;

@@ -3,12 +3,11 @@ ghost use Rattle.std.specs.Prelude.{◌≡◌};
 ghost use Rattle.np_kinds.specs.Between.{number_of_workloads};
 
 use np_addr::Family;
-use np_base::NoMemory;
+use np_base::{NoMemory, Steps};
 use np_conns::{ConnSet, print_conns};
 use np_fold::{Folded, Workloads};
 use np_model::Direction;
 use np_report::{Report, row_text};
-use np_steps::Steps;
 use np_table::{AddressRow, Row, address_rows, pair_rows, pair_set};
 use std::alloc::Global;
 use std::sync::ledger::Ledger;

@@ -3,11 +3,10 @@ ghost use Rattle.std.specs.Prelude.{◌≡◌, length, IfOk};
 ghost use Rattle.np_rules.specs.StrangerRules.{ArePermitted};
 
 use crate::layers::expect_just;
-use np_base::NoMemory;
+use np_base::{NoMemory, Steps};
 use np_conns::ConnSet;
 use np_model::{Direction, Estate};
 use np_rules::{PodRules, Stranger, StrangerRules, joined_set};
-use np_steps::Steps;
 use std::alloc::Global;
 use std::process::Abort;
 use std::sync::ledger::Ledger;

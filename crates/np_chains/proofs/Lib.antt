@@ -1,5 +1,0 @@
-pub mod Ends
-pub mod Owned
-pub mod Pigeonhole
-pub mod Places
-pub mod Walks

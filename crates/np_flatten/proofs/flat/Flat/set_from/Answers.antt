@@ -1,0 +1,19 @@
+use Rattle.std.proofs.Common.{ℕ, Some, sym, ap, ◌∙◌}
+use Rattle.np_conns.specs.Conns.{Conns}
+use Rattle.np_flatten.specs.Types.{EstateLists}
+use Rattle.np_flatten.proofs.ReceiverFacts.{firsts-apart, set-cross}
+use Rattle.np_flatten.proofs.flat.Flat.set_from.Goals as goal
+use Rattle.np_flatten.specs.Faults.{set_of}
+use Rattle.np_flatten.specs.Groups.{first_of_group}
+
+pub between-requires-clause-apart : goal.between-requires-clause-apart
+between-requires-clause-apart g c = λ same. firsts-apart c.args.self.now c.args.sender c.args.group c.requires.sender c.requires.group c.if-sender-group.false
+    (sym c.first.ensures.value ∙ same ∙ c.first-2.ensures.value)
+
+pub returns-clause-set : goal.returns-clause-set
+returns-clause-set g c =
+    ap (λ (set : Conns). Some set) (c.in_ok-set.ensures.set
+    ∙ ap (λ (l : EstateLists). set_of l c.first.result c.first-2.result) c.self.view_is
+    ∙ ap (λ (f : ℕ). set_of c.args.self.now f c.first-2.result) c.first.ensures.value
+    ∙ ap (λ (f : ℕ). set_of c.args.self.now (first_of_group c.args.self.now c.args.sender) f) c.first-2.ensures.value)
+    ∙ set-cross c.args.self.now c.args.sender c.args.group c.requires.sender c.requires.group c.if-sender-group.false

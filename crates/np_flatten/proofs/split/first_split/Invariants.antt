@@ -1,0 +1,15 @@
+use Rattle.std.proofs.Common.{◌≡◌, ◌≤◌, length}
+use Rattle.np_flatten.proofs.split.first_split.Given as goal
+use Rattle.np_flatten.specs.steps.SplitRows.{first_split_of}
+use Rattle.np_table.specs.Rows.{all_rows}
+use Rattle.np_table.specs.Table.{estate_table}
+
+-- the rows so far have no mark
+abbrev pub invariant-loop-rows : goal.invariant-loop-rows
+invariant-loop-rows g l = record {
+  found : first_split_of l.rows.rows ≡ first_split_of (all_rows (estate_table l.folded));
+  least : l.fn.steps ≤ l.steps;
+}
+
+abbrev pub decreases-loop-rows : goal.decreases-loop-rows
+decreases-loop-rows g l = length l.rows.rows

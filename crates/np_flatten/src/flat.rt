@@ -1,0 +1,256 @@
+//! The flat policies of an estate.
+ghost use Rattle.std.specs.Prelude.{◌≡◌, ◌<◌, ◌≤◌, ◌^◌, ◌++◌, IfOk, OnOk, map};
+ghost use Rattle.np_classes.specs.Classes.{places};
+ghost use Rattle.np_flatten.specs.Flat as spec;
+ghost use Rattle.np_flatten.specs.Groups.{first_of_group, group_count, group_firsts, group_of, relevant};
+ghost use Rattle.np_flatten.specs.steps.Next.{next_in};
+ghost use Rattle.np_kinds.specs.Between.{IsWorkload, number_of_workloads};
+
+use crate::address_rules::add_rules_of_addresses;
+use crate::passing::Passing;
+use crate::policy_parts::{
+    flat_name, is_nothing, peer_like, ports_of, rule_to_everyone, selector_of,
+};
+use np_base::{NoMemory, Seq, Steps, Text};
+use np_classes::Classes;
+use np_conns::ConnSet;
+use np_fold::Folded;
+use np_kinds::first_pod;
+use np_model::{Direction, NetPolicy, NetRule};
+use np_table::address_rows;
+use std::marker::Model;
+use std::sync::ledger::Ledger;
+
+/// The flat policies of an estate, one for each group of workloads: those of one namespace whose pods have the same values of
+/// all keys of labels that some selector names. Groups are numbered from 0 by the first workload of each. A policy is made when
+/// it is asked for. Contracts see the lists of the estate.
+pub struct Flat<'a> {
+    passing: Passing<'a>,
+    groups: Classes,
+}
+
+// Written out, so that letting one go is one call.
+impl<'a> Drop for Flat<'a> {
+    fn drop(self) {
+        let Flat {
+            passing: _passing,
+            groups: _groups,
+        } = self;
+    }
+}
+
+impl<'a> Model for Flat<'a> {
+    ghost use Rattle.std.specs.Prelude.{◌≡◌, ◌<◌, ◌^◌, map};
+    ghost use Rattle.np_classes.specs.Classes.{places};
+    ghost use Rattle.np_model.specs.declared.lists.EstateLists.{EstateLists};
+    ghost use Rattle.np_flatten.specs.Groups.{group_firsts, group_of};
+    ghost use Rattle.np_kinds.specs.Between.{number_of_workloads};
+
+    ghost Value = { EstateLists };
+
+    ghost view = { λ f. f.passing };
+
+    ghost invariant = { λ f. (f.groups.firsts ≡ group_firsts f.passing)
+        × (f.groups.numbers ≡ map (group_of f.passing) (places (number_of_workloads f.passing)))
+        × (number_of_workloads f.passing < 2 ^ 32) };
+}
+
+impl<'a> Flat<'a> {
+    // The flat policies by what passes in an estate and by its groups.
+    pub(crate) fn of(passing: Passing<'a>, groups: Classes) -> Flat<'a>
+        requires firsts { groups.firsts ≡ group_firsts passing }
+        requires numbers { groups.numbers ≡ map (group_of passing) (places (number_of_workloads passing)) }
+        requires few { number_of_workloads passing < 2 ^ 32 }
+        ensures { result ≡ passing.entry }
+    {
+        Flat { passing, groups }
+    }
+
+    /// How many groups there are. It takes no memory.
+    pub fn count(&self) -> u32
+        ensures { result ≡ group_count self.now }
+    {
+        self.groups.firsts.items().len() as u32
+    }
+
+    /// The policy of a group, named `flat-` and its number. It selects the pods of the group, in both directions.
+    ///
+    /// As ingress it has a rule for each group of which some workload may send to one of this group, and then one for each
+    /// range of addresses that may send to it, as the fewest blocks. As egress it has a rule of every pod, since what its pods
+    /// may not send to others the others' ingress refuses, and then one for each range of addresses that it may send to.
+    pub fn policy<L: Ledger>(&self, group: u32, steps: &mut Steps<L>) -> Result<NetPolicy, NoMemory>
+        requires { group < group_count self.now }
+        ensures policy { IfOk result (λ policy. policy ≡ spec.flat_policy self.now group) }
+        ensures least { steps.old ≤ steps.new }
+    {
+        let ingress = self.ingress_rules(group, steps)?;
+        let egress = self.egress_rules(group, steps)?;
+        let alloc = self.passing.alloc();
+        let pod = first_pod(self.folded(), self.first(group));
+        Ok(NetPolicy {
+            namespace: pod.namespace.copy()?,
+            name: flat_name(alloc, group)?,
+            subject: selector_of(alloc, self.keys(), &pod.labels)?,
+            ingress: Some(ingress),
+            egress: Some(egress),
+        })
+    }
+
+    // The ingress of a group: from groups, and then from addresses.
+    fn ingress_rules<L: Ledger>(
+        &self,
+        group: u32,
+        steps: &mut Steps<L>,
+    ) -> Result<Seq<NetRule>, NoMemory>
+        requires { group < group_count self.now }
+        ensures rules { IfOk result (λ made. made ≡ spec.ingress_rules self.now group) }
+        ensures least { steps.old ≤ steps.new }
+    {
+        let mut rules = Seq::new(self.passing.alloc());
+        for sender in 0..self.count() {
+            self.add_rule_from(&mut rules, sender, group, steps)?;
+        }
+        self.add_rules_of_addresses(&mut rules, group, Direction::Ingress, steps)?;
+        Ok(rules)
+    }
+
+    // The egress of a group: to every pod, and then to addresses.
+    fn egress_rules<L: Ledger>(
+        &self,
+        group: u32,
+        steps: &mut Steps<L>,
+    ) -> Result<Seq<NetRule>, NoMemory>
+        requires { group < group_count self.now }
+        ensures rules { IfOk result (λ made. made ≡ spec.egress_rules self.now group) }
+        ensures least { steps.old ≤ steps.new }
+    {
+        let alloc = self.passing.alloc();
+        let mut rules = Seq::new(alloc);
+        rules.push(rule_to_everyone(alloc)?)?;
+        self.add_rules_of_addresses(&mut rules, group, Direction::Egress, steps)?;
+        Ok(rules)
+    }
+
+    // Adds the rule from one group to another, where something may pass.
+    fn add_rule_from<L: Ledger>(
+        &self,
+        rules: &mut Seq<NetRule>,
+        sender: u32,
+        group: u32,
+        steps: &mut Steps<L>,
+    ) -> Result<(), NoMemory>
+        requires sender { sender < group_count self.now }
+        requires group { group < group_count self.now }
+        ensures rules { OnOk result (rules.new ≡ rules.old ++ spec.rules_from_group self.now group sender) }
+        ensures least { steps.old ≤ steps.new }
+    {
+        let Some(set) = self.set_from(sender, group, steps)? else {
+            return Ok(());
+        };
+        if is_nothing(&set) {
+            return Ok(());
+        }
+        let alloc = self.passing.alloc();
+        let pod = first_pod(self.folded(), self.first(sender));
+        let mut peers = Seq::new(alloc);
+        peers.push(peer_like(alloc, self.keys(), pod)?)?;
+        let ports = ports_of(alloc, &set)?;
+        rules.push(NetRule { peers, ports })
+    }
+
+    // What passes from one group to another. `None` exactly where both are one group of one pod.
+    fn set_from<L: Ledger>(
+        &self,
+        sender: u32,
+        group: u32,
+        steps: &mut Steps<L>,
+    ) -> Result<Option<ConnSet>, NoMemory>
+        requires sender { sender < group_count self.now }
+        requires group { group < group_count self.now }
+        ensures set { IfOk result (λ made. made ≡ spec.set_from self.now sender group) }
+        ensures least { steps.old ≤ steps.new }
+    {
+        if sender == group {
+            return self.set_within(group, steps);
+        }
+        let set = self
+            .passing
+            .between(self.first(sender), self.first(group), steps)?;
+        Ok(Some(set))
+    }
+
+    // What passes from a group to itself: within its first workload, or where that has one pod to the next one.
+    fn set_within<L: Ledger>(
+        &self,
+        group: u32,
+        steps: &mut Steps<L>,
+    ) -> Result<Option<ConnSet>, NoMemory>
+        requires { group < group_count self.now }
+        ensures set { IfOk result (λ made. made ≡ spec.set_from self.now group group) }
+        ensures least { steps.old ≤ steps.new }
+    {
+        let first = self.first(group);
+        let within = self.passing.within(first, steps)?;
+        if within.is_some() {
+            return Ok(within);
+        }
+        match self.next_like(first, group) {
+            Some(next) => Ok(Some(self.passing.between(first, next, steps)?)),
+            None => Ok(None),
+        }
+    }
+
+    // The first workload of a group behind one.
+    fn next_like(&self, workload: u32, group: u32) -> Option<u32>
+        requires { IsWorkload self.now workload }
+        ensures { result ≡ next_in self.now workload group }
+    {
+        let numbers = self.groups.numbers.items();
+        for other in workload + 1..numbers.len() as u32 {
+            if numbers[other as usize] == group {
+                return Some(other);
+            }
+        }
+        None
+    }
+
+    // Adds the rules of the ranges of addresses of a group in a direction.
+    fn add_rules_of_addresses<L: Ledger>(
+        &self,
+        rules: &mut Seq<NetRule>,
+        group: u32,
+        direction: Direction,
+        steps: &mut Steps<L>,
+    ) -> Result<(), NoMemory>
+        requires { group < group_count self.now }
+        ensures rules { OnOk result (rules.new ≡ rules.old ++ spec.rules_of_addresses (spec.group_rows self.now group direction)) }
+        ensures least { steps.old ≤ steps.new }
+    {
+        let alloc = self.passing.alloc();
+        let rows = address_rows(alloc, self.folded(), self.first(group), direction, steps)?;
+        add_rules_of_addresses(alloc, rules, rows.items())
+    }
+
+    // The first workload of a group.
+    fn first(&self, group: u32) -> u32
+        requires { group < group_count self.now }
+        ensures value { result ≡ first_of_group self.now group }
+        ensures within { IsWorkload self.now result }
+    {
+        self.groups.firsts.items()[group as usize]
+    }
+
+    // The estate with its workloads.
+    fn folded(&self) -> &'a Folded
+        ensures { result.now ≡ self.now }
+    {
+        self.passing.folded()
+    }
+
+    // The keys of labels that selectors name.
+    fn keys(&self) -> &[Text]
+        ensures { result.now ≡ relevant self.now }
+    {
+        self.passing.folded().workloads().relevant()
+    }
+}

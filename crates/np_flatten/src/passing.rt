@@ -1,0 +1,128 @@
+//! What passes between two workloads, by rules that are found once.
+ghost use Rattle.std.specs.Prelude.{◌≡◌, ◌≢◌, ◌≤◌, IfOk, None, Some, if◌then◌else◌};
+ghost use Rattle.np_fold.specs.Workloads.{folding_of};
+ghost use Rattle.np_flatten.specs.Faults as spec;
+ghost use Rattle.np_kinds.specs.Between.{IsWorkload, is_alone};
+
+use np_addr::Family;
+use np_base::{Cells, NoMemory, Steps};
+use np_conns::ConnSet;
+use np_fold::Folded;
+use np_kinds::{KindReach, Sides};
+use np_model::Direction;
+use np_table::{pair_set, set_between};
+use std::alloc::Global;
+use std::marker::Model;
+use std::sync::ledger::Ledger;
+
+/// For each kind of workloads of an estate the rules of the pod that stands for it, as it sends and as it receives, and which
+/// kinds these let through at all. What they give between two workloads is made when it is asked for, and not kept. Contracts
+/// see the lists of the estate.
+pub(crate) struct Passing<'a> {
+    alloc: Global,
+    sides: Sides<'a>,
+    reach: KindReach,
+}
+
+// Written out, so that letting one go is one call.
+impl<'a> Drop for Passing<'a> {
+    fn drop(self) {
+        let Passing {
+            alloc: _alloc,
+            sides: _sides,
+            reach: _reach,
+        } = self;
+    }
+}
+
+impl<'a> Model for Passing<'a> {
+    ghost use Rattle.np_model.specs.declared.lists.EstateLists.{EstateLists};
+    ghost use Rattle.np_flatten.specs.steps.Known.{AreKnownBelow};
+    ghost use Rattle.np_kinds.specs.Kinds.{IsKindReach};
+    ghost use Rattle.np_kinds.specs.Between.{number_of_workloads};
+
+    ghost Value = { EstateLists };
+
+    ghost view = { λ p. p.sides.lists };
+
+    ghost invariant = { λ p. AreKnownBelow p.sides (number_of_workloads p.sides.lists) × IsKindReach p.sides.lists p.reach };
+}
+
+impl<'a> Passing<'a> {
+    /// The rules of all kinds. Each policy is asked once for each of them and each direction.
+    pub(crate) fn of(alloc: Global, folded: &'a Folded) -> Result<Passing<'a>, NoMemory>
+        ensures { IfOk result (λ made. made ≡ folded.now) }
+    {
+        let mut sides = Sides::new(alloc, folded);
+        for workload in 0..folded.workloads().count() {
+            sides.ask_pair(workload, workload)?;
+        }
+        let reach = KindReach::of(alloc, folded)?;
+        Ok(Passing {
+            alloc,
+            sides,
+            reach,
+        })
+    }
+
+    /// Where the memory of what is made comes from.
+    pub(crate) fn alloc(&self) -> Global {
+        self.alloc
+    }
+
+    /// The estate with its workloads.
+    pub(crate) fn folded(&self) -> &'a Folded
+        ensures { result.now ≡ self.now }
+    {
+        self.sides.folded()
+    }
+
+    /// What passes from a workload to another in packets of the first family of the list.
+    pub(crate) fn between<L: Ledger>(
+        &self,
+        source: u32,
+        destination: u32,
+        steps: &mut Steps<L>,
+    ) -> Result<ConnSet, NoMemory>
+        requires source { IsWorkload self.now source }
+        requires destination { IsWorkload self.now destination }
+        requires apart { source ≢ destination }
+        ensures set { IfOk result (λ made. made ≡ spec.set_of self.now source destination) }
+        ensures least { steps.old ≤ steps.new }
+    {
+        let folded = self.folded();
+        if self.reach.is_silent(folded, source, destination) {
+            let nothing = ConnSet::nothing(self.alloc)?;
+            return Ok(nothing);
+        }
+        let sender = self.sides.at(Direction::Egress, source);
+        let receiver = self.sides.at(Direction::Ingress, destination);
+        set_between(self.alloc, sender, receiver, first_family(folded), steps)
+    }
+
+    /// What passes within a workload in packets of the first family of the list. `None` exactly where it has one pod.
+    pub(crate) fn within<L: Ledger>(
+        &self,
+        workload: u32,
+        steps: &mut Steps<L>,
+    ) -> Result<Option<ConnSet>, NoMemory>
+        requires { IsWorkload self.now workload }
+        ensures set { IfOk result (λ made. made ≡ (if is_alone (folding_of self.now) workload workload then None
+            else Some (spec.set_of self.now workload workload))) }
+        ensures least { steps.old ≤ steps.new }
+    {
+        let folded = self.folded();
+        let family = first_family(folded);
+        pair_set(self.alloc, folded, workload, workload, family, steps)
+    }
+}
+
+// The first of the families of the list.
+fn first_family(folded: &Folded) -> Family
+    ensures { result ≡ spec.family_of_list folded.now }
+{
+    match folded.estate().families() {
+        [first, ..] => *first,
+        [] => Family::Four,
+    }
+}

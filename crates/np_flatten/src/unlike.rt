@@ -1,0 +1,75 @@
+//! The first pair of workloads of one group that differ.
+ghost use Rattle.std.specs.Prelude.{◌≡◌, ◌<◌, ◌≤◌, IfOk, length, map, slice_index};
+ghost use Rattle.np_classes.specs.Classes.{places};
+ghost use Rattle.np_flatten.specs.Faults as faults;
+ghost use Rattle.np_flatten.specs.Groups.{group_firsts, group_of};
+ghost use Rattle.np_flatten.specs.Pairs.{first_pair};
+ghost use Rattle.np_flatten.specs.steps.Least.{comes_before, with_number};
+ghost use Rattle.np_flatten.specs.steps.Unlike.{first_by};
+ghost use Rattle.np_kinds.specs.Between.{IsWorkload, number_of_workloads};
+
+use crate::differ::differ;
+use crate::passing::Passing;
+use np_base::{NoMemory, Steps};
+use np_classes::Classes;
+use std::sync::ledger::Ledger;
+
+/// The first two workloads of one group that differ, by the lesser number and then by the greater. The first workload of each
+/// kind is held against the first of its group: workloads of one kind never differ, and where none differs from the first of
+/// its group no two of a group do.
+pub(crate) fn first_unlike<L: Ledger>(
+    passing: &Passing<'_>,
+    groups: &Classes,
+    steps: &mut Steps<L>,
+) -> Result<Option<(u32, u32)>, NoMemory>
+    requires firsts { groups.now.firsts ≡ group_firsts passing.now }
+    requires numbers { groups.now.numbers ≡ map (group_of passing.now) (places (number_of_workloads passing.now)) }
+    ensures found { IfOk result (λ found. found ≡ first_pair (faults.is_unlike passing.now) (number_of_workloads passing.now)) }
+    ensures least { steps.old ≤ steps.new }
+{
+    let mut found = None;
+    for workload in passing.folded().workloads().first_of_kinds() {
+        let first = first_of_group(groups, *workload);
+        found = least_with(passing, first, *workload, found, steps)?;
+    }
+    Ok(found)
+}
+
+// The least pair, where these two are looked at as well: the first of a group and a workload of it.
+fn least_with<L: Ledger>(
+    passing: &Passing<'_>,
+    first: u32,
+    workload: u32,
+    found: Option<(u32, u32)>,
+    steps: &mut Steps<L>,
+) -> Result<Option<(u32, u32)>, NoMemory>
+    requires first { IsWorkload passing.now first }
+    requires workload { IsWorkload passing.now workload }
+    ensures found { IfOk result (λ least. least ≡ with_number (faults.differ passing.now) first workload found) }
+    ensures least { steps.old ≤ steps.new }
+{
+    if !comes_before(first, workload, found) {
+        return Ok(found);
+    }
+    if differ(passing, first, workload, steps)? {
+        return Ok(Some((first, workload)));
+    }
+    Ok(found)
+}
+
+// The first workload of the group of one.
+fn first_of_group(groups: &Classes, workload: u32) -> u32
+    requires number { workload < length groups.now.numbers }
+    requires within { slice_index groups.now.numbers workload < length groups.now.firsts }
+    ensures { result ≡ first_by groups.now.firsts groups.now.numbers workload }
+{
+    let group = groups.numbers.items()[workload as usize];
+    groups.firsts.items()[group as usize]
+}
+
+// Whether two workloads are two, and stand before those that were found.
+fn comes_before(first: u32, workload: u32, found: Option<(u32, u32)>) -> bool
+    ensures { result ≡ comes_before first workload found }
+{
+    first != workload && found.is_none_or(|(a, b)| first < a || (first == a && workload < b))
+}

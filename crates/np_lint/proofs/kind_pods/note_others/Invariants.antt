@@ -1,6 +1,0 @@
-use Rattle.np_lint.proofs.kind_pods.note_others.Given as goal
-use Rattle.np_lint.specs.steps.Kinds.{AreKindPodsOf}
-
--- the pods so far
-abbrev pub invariant-loop-pod : goal.invariant-loop-pod
-invariant-loop-pod l = AreKindPodsOf l.folded l.pod l.kinds

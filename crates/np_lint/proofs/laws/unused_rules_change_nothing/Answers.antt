@@ -1,5 +1,0 @@
-use Rattle.np_lint.proofs.AllowLemmas.{change_nothing}
-use Rattle.np_lint.proofs.laws.unused_rules_change_nothing.Goals as goal
-
-pub returns : goal.returns
-returns c = change_nothing

@@ -1,5 +1,0 @@
-use Rattle.np_lint.proofs.LawLemmas.{decide_nothing}
-use Rattle.np_lint.proofs.laws.unused_rules_decide_nothing.Goals as goal
-
-pub returns : goal.returns
-returns c = decide_nothing

@@ -1,5 +1,0 @@
-use Rattle.np_lint.proofs.OrderLemmas.{unused_in_order}
-use Rattle.np_lint.proofs.laws.unused_rules_stand_in_order.Goals as goal
-
-pub returns : goal.returns
-returns c = unused_in_order

@@ -1,7 +1,0 @@
-use Rattle.std.proofs.Common.{◌≡◌, ◌++◌, take}
-use Rattle.np_synth.proofs.address_rules.add_rules_of_addresses.Given as goal
-use Rattle.np_synth.specs.Flat.{rules_of_addresses}
-
--- the rules have those of the ranges so far
-abbrev pub invariant-loop-row : goal.invariant-loop-row
-invariant-loop-row l = l.rules ≡ l.fn.rules ++ rules_of_addresses (take l.row-index l.rows)

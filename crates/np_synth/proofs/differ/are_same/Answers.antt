@@ -1,5 +1,0 @@
-use Rattle.np_synth.proofs.DifferLemmas.{same-told}
-use Rattle.np_synth.proofs.differ.are_same.Goals as goal
-
-pub returns : goal.returns
-returns c = same-told c.args.one.now c.args.other.now c.same.result c.same.ensures.answer

@@ -1,0 +1,100 @@
+-- Rules are told by the names of their policies and their places. For NameLemmas.
+use Rattle.std.proofs.Common.{◌≡◌, ◌≢◌, ℕ, zero, suc, ◌<◌, List, [], ◌∷◌, ◌++◌, Bool, true, false, not, ◌==◌, get_or, Some, AllPairs, Ordering, Equal, append_assoc, eq-eqb, refl, sym, ◌∙◌, ap, inl, inr}
+use Rattle.std.specs.Cmp.Lexicographic.{slice_cmp}
+use Rattle.std.specs.List.{list_all, list_any, slice_get}
+use Rattle.std.specs.Ordering.{nat_cmp}
+use Rattle.std.proofs.lemmas.Bool.{and_parts, cases_order, false≢true, not-true, or_parts, true≢false}
+use Rattle.std.proofs.lemmas.Cmp.{nat_list_cmp_total, tied_itself}
+use Rattle.std.proofs.lemmas.Option.{get_or_from_slice_get, slice_get_within}
+use Rattle.std.proofs.lemmas.Slice.Eq.{bytes_eq-Decides}
+use Rattle.np_model.specs.Lawful.{AreNamesApart, IsLawful, StandsBefore, comes_before, is_well}
+use Rattle.np_unused.specs.Types.{AdminPolicy, EstateLists, NetPolicy}
+use Rattle.np_model.specs.Words.{is_name}
+use Rattle.np_model.specs.WellPolicies.{is_well_net_policy}
+use Rattle.np_rules.specs.Deciders.{net_policy_name}
+
+-- two places of items that pairwise differ are one where the items' names are
+one_place : {X N : Type 0} (name : X → N) (xs : List X) → AllPairs (λ x y. name x ≢ name y) xs → (p q : ℕ) (x y : X) → slice_get xs p ≡ Some x → slice_get xs q ≡ Some y → name x ≡ name y → p ≡ q
+one_place {X} {N} name xs apart p q x y at_p at_q same =
+    elim (cases_order p q) [
+      | inl equal ↦ equal
+      | inr others ↦ elim others [
+        | inl before ↦ absurd (pair p q x y before at_p at_q same)
+        | inr after ↦ absurd (pair q p y x after at_q at_p (sym same))
+      ]
+    ]
+  where
+    pair : (i j : ℕ) (a b : X) → i < j → slice_get xs i ≡ Some a → slice_get xs j ≡ Some b → name a ≡ name b → ⊥
+    pair i j a b before at_i at_j equal = apart i j a before (slice_get_within xs j b at_j)
+        (ap name (get_or_from_slice_get xs i a a at_i) ∙ equal ∙ ap name (sym (get_or_from_slice_get xs j b a at_j)))
+
+-- ---- admin policies
+
+admin_names_differ : (policies : List AdminPolicy) → AllPairs AreNamesApart policies → AllPairs (λ a b. a.name ≢ b.name) policies
+admin_names_differ policies apart = λ i j d before within same.
+    absurd (false≢true (ap not (sym ((bytes_eq-Decides (get_or policies i d).name (get_or policies j d).name).1 same)) ∙ apart i j d before within))
+
+pub one_admin_policy : (lists : EstateLists) → IsLawful lists → (p q : ℕ) (a b : AdminPolicy) → slice_get lists.admin_policies p ≡ Some a → slice_get lists.admin_policies q ≡ Some b →
+    a.name ≡ b.name → p ≡ q
+one_admin_policy lists lawful = one_place (λ policy. policy.name) lists.admin_policies (admin_names_differ lists.admin_policies lawful.admin_policies_apart)
+
+-- ---- NetworkPolicies
+
+abbrev Lacks : ℕ → List ℕ → Type 0
+Lacks byte text = list_any (λ other. other == byte) text ≡ false
+
+not-first : (byte other : ℕ) (others : List ℕ) → Lacks byte (other ∷ others) → byte ≡ other → ⊥
+not-first byte other others lacks same =
+    true≢false (sym (eq-eqb other byte (sym same)) ∙ (or_parts (other == byte) (list_any (λ next. next == byte) others) lacks).0)
+
+-- texts that are cut at the first of a byte are equal part by part
+cut : (byte : ℕ) (front front' rest rest' : List ℕ) → Lacks byte front → Lacks byte front' → front ++ byte ∷ rest ≡ front' ++ byte ∷ rest' → (front ≡ front') × (rest ≡ rest')
+cut byte [] [] rest rest' lacks lacks' same = (refl, cc)
+cut byte [] (y ∷ ys) rest rest' lacks lacks' same = absurd (not-first byte y ys lacks' cc)
+cut byte (x ∷ xs) [] rest rest' lacks lacks' same = absurd (not-first byte x xs lacks cc)
+cut byte (x ∷ xs) (y ∷ ys) rest rest' lacks lacks' same =
+    let heads : x ≡ y = cc in
+    let tails : xs ++ byte ∷ rest ≡ ys ++ byte ∷ rest' = cc in
+    let fronts = (or_parts (x == byte) (list_any (λ next. next == byte) xs) lacks).1 in
+    let fronts' = (or_parts (y == byte) (list_any (λ next. next == byte) ys) lacks').1 in
+    let both = cut byte xs ys rest rest' fronts fronts' tails in
+    (rw (heads, both.0) refl, both.1)
+
+lacks_slash : (text : List ℕ) → is_name text ≡ true → Lacks 47 text
+lacks_slash text name = not-true _ (and_parts _ _ name).1
+
+spelled : (policy : NetPolicy) → net_policy_name policy ≡ policy.namespace ++ 47 ∷ policy.name
+spelled policy = simp append_assoc
+
+passes_at : {X : Type 0} (test : X → Bool) (xs : List X) (k : ℕ) (x : X) → list_all test xs ≡ true → slice_get xs k ≡ Some x → test x ≡ true
+passes_at test [] k x all at = cc
+passes_at test (y ∷ xs) zero x all at = let same : y ≡ x = cc in ap test (sym same) ∙ (and_parts _ _ all).0
+passes_at test (y ∷ xs) (suc k) x all at = passes_at test xs k x (and_parts (test y) (list_all test xs) all).1 at
+
+namespace_is_name : (policy : NetPolicy) → is_well_net_policy policy ≡ true → is_name policy.namespace ≡ true
+namespace_is_name policy well = (and_parts _ _ (and_parts _ _ (and_parts _ _ (and_parts _ _ well).0).0).0).0
+
+net_policies_well : (lists : EstateLists) → is_well lists ≡ true → list_all is_well_net_policy lists.net_policies ≡ true
+net_policies_well lists well = (and_parts _ _ (and_parts _ _ (and_parts _ _ (and_parts _ _ (and_parts _ _ well).0).0).0).0).1
+
+-- a namespace and a name
+abbrev full_name : NetPolicy → List ℕ × List ℕ
+full_name policy = (policy.namespace, policy.name)
+
+not_before : (a b : NetPolicy) → StandsBefore a b → full_name a ≡ full_name b → ⊥
+not_before a b before same =
+    let spaces : a.namespace ≡ b.namespace = ap (λ (p : List ℕ × List ℕ). p.0) same in
+    let names : a.name ≡ b.name = ap (λ (p : List ℕ × List ℕ). p.1) same in
+    let equal : slice_cmp nat_cmp a.namespace b.namespace ≡ Equal = ap (slice_cmp nat_cmp a.namespace) (sym spaces) ∙ tied_itself nat_list_cmp_total a.namespace in
+    let equal' : slice_cmp nat_cmp a.name b.name ≡ Equal = ap (slice_cmp nat_cmp a.name) (sym names) ∙ tied_itself nat_list_cmp_total a.name in
+    false≢true (sym (ap (λ (o : Ordering). comes_before o (slice_cmp nat_cmp a.name b.name)) equal ∙ ap (comes_before Equal) equal') ∙ before)
+
+pub one_net_policy : (lists : EstateLists) → IsLawful lists → (p q : ℕ) (a b : NetPolicy) → slice_get lists.net_policies p ≡ Some a → slice_get lists.net_policies q ≡ Some b →
+    net_policy_name a ≡ net_policy_name b → p ≡ q
+one_net_policy lists lawful p q a b at_p at_q same =
+    let well = net_policies_well lists lawful.well in
+    let name_a = lacks_slash a.namespace (namespace_is_name a (passes_at is_well_net_policy lists.net_policies p a well at_p)) in
+    let name_b = lacks_slash b.namespace (namespace_is_name b (passes_at is_well_net_policy lists.net_policies q b well at_q)) in
+    let parts = cut 47 a.namespace b.namespace a.name b.name name_a name_b (sym (spelled a) ∙ same ∙ spelled b) in
+    one_place full_name lists.net_policies (λ i j d before within. not_before (get_or lists.net_policies i d) (get_or lists.net_policies j d) (lawful.net_policies_ascend i j d before within)) p q a b
+    at_p at_q (rw (parts.0, parts.1) refl)

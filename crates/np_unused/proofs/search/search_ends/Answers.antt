@@ -1,0 +1,33 @@
+use Rattle.std.proofs.Common.{◌∙◌, ap}
+use Rattle.std.proofs.lemmas.Result.{IfOk-weaker}
+use Rattle.np_unused.proofs.StepLemmas.{all_known_of, knows_all_grows, not_searched, searched_both}
+use Rattle.np_unused.proofs.search.search_ends.Goals as goal
+use Rattle.np_unused.specs.steps.Search.{KnowsAll, KnowsFamilies, KnowsSide}
+use Rattle.np_model.specs.Families.{families_of}
+use Rattle.np_unused.specs.Types.{EstateLists}
+use Rattle.np_rules.specs.EveryAddress.{is_place}
+use Rattle.np_rules.specs.PodSides.{with_addresses}
+
+pub returns-then-has_all-clause-searched : goal.returns-then-has_all-clause-searched
+returns-then-has_all-clause-searched g c =
+    let side = c.args.search.now.side.now in
+    let kinds = c.args.search.now.kinds.pods.now in
+    let near = c.args.search.now.near in
+    not_searched side.lists side.direction (KnowsSide side kinds near) c.args.used.now
+    (all_known_of side c.requires.lawful c.args.search.now.rules.now c.requires.rules kinds near c.args.used.now c.has_all.result c.has_all.ensures c.if-has_all.true)
+
+pub search_families-requires-clause-families : goal.search_families-requires-clause-families
+search_families-requires-clause-families g c = c.families.ensures ∙ ap (λ (lists : EstateLists). families_of lists.pods) c.requires.estate_is
+
+pub returns-clause-searched : goal.returns-clause-searched
+returns-clause-searched g c =
+    let side = c.args.search.now.side.now in
+    let kinds = c.args.search.now.kinds.pods.now in
+    let near = c.args.search.now.near in
+    let middle = c.search_addresses.new.used in
+    let new = c.search_families.new.used in
+    IfOk-weaker c.search_families.result _ _
+    (λ _ later. searched_both side.lists side.direction (KnowsAll is_place side with_addresses) (KnowsFamilies side kinds near) (KnowsSide side kinds near) c.args.used.now middle new
+    (λ grows addresses pods. record { addresses = knows_all_grows is_place side with_addresses middle new grows addresses; pods = pods })
+    c.in_ok-search_addresses.ensures.searched later)
+    c.search_families.ensures.searched

@@ -1,0 +1,40 @@
+use Rattle.std.proofs.Common.{◌≡◌, slice_get, subst, Some, sym, ◌∙◌}
+use Rattle.std.proofs.lemmas.Bool.{and_parts}
+use Rattle.std.proofs.lemmas.Result.{IfOk-weaker}
+use Rattle.np_conns.specs.Conns.{has_spot, is_spot}
+use Rattle.np_unused.proofs.KindPodLemmas.{own_kind}
+use Rattle.np_unused.proofs.QuietLemmas.{quiet_kind}
+use Rattle.np_unused.proofs.SearchLemmas.{layer_searched}
+use Rattle.np_unused.proofs.StepLemmas.{kind_at, kind_is, not_searched, pod_of_kind, searched_as}
+use Rattle.np_unused.proofs.search.search_kind.Goals as goal
+use Rattle.np_unused.specs.Types.{KindPod}
+use Rattle.np_unused.specs.steps.Search.{KnowsAll, KnowsFar, PodsAreUsed}
+use Rattle.np_rules.specs.PodSides.{with_pod}
+
+pub returns-then-not-may_tell-clause-searched : goal.returns-then-not-may_tell-clause-searched
+returns-then-not-may_tell-clause-searched g c =
+    let side = c.args.search.now.side.now in
+    not_searched side.lists side.direction (KnowsFar side c.args.search.now.kinds.pods.now c.args.search.now.near c.args.family c.args.kind) c.args.used.now
+    (λ far at asked. quiet_kind c.args.search.now c.requires.search c.args.used.now c.args.kind far at (sym (c.may_tell.ensures far at) ∙ c.if-not-may_tell.true) asked c.args.family)
+
+pub pod_layer-requires : goal.pod_layer-requires
+pod_layer-requires g c =
+    let kinds = c.args.search.now.kinds.pods.now in
+    (own_kind c.args.search.now.side.now.lists c.requires.search.lawful kinds c.requires.search.kinds c.args.kind (pod_of_kind kinds c.args.kind) (kind_at kinds c.args.kind c.requires.kind)).0
+
+pub returns-clause-searched : goal.returns-clause-searched
+unfolding PodsAreUsed
+returns-clause-searched g c =
+    let side = c.args.search.now.side.now in
+    let kinds = c.args.search.now.kinds.pods.now in
+    let one = pod_of_kind kinds c.args.kind in
+    let at : slice_get kinds c.args.kind ≡ Some one = kind_at kinds c.args.kind c.requires.kind in
+    let listed = c.requires.search.families c.args.family c.requires.family c.args.kind one at (and_parts _ _ (sym (c.may_tell.ensures one at) ∙ c.if-not-may_tell.false)).0 in
+    let far = with_pod one.pod c.args.family in
+    IfOk-weaker c.note_layer.result _ _
+    (λ _ noted. searched_as side.lists side.direction (KnowsAll is_spot side far) (KnowsFar side kinds c.args.search.now.near c.args.family c.args.kind) c.args.used.now c.note_layer.new.self
+    (λ known other at_other asked.
+    subst (λ (k : KindPod). KnowsAll is_spot side (with_pod k.pod c.args.family) c.note_layer.new.self) (kind_is kinds c.args.kind other at_other) known)
+    (layer_searched has_spot is_spot side far c.in_ok-layer.layer c.requires.search.lawful c.in_ok-layer.ensures.layer c.args.search.now.rules.now c.requires.search.rules c.args.used.now
+    c.note_layer.new.self listed noted))
+    c.note_layer.ensures

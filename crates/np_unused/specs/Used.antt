@@ -1,0 +1,103 @@
+-- Which rules are used.
+use Rattle.std.specs.Prelude.{◌≡◌, ℕ, ◌<◌, ◌^◌, List, [], ◌∷◌, ◌++◌, map, filter, length, Bool, true, false, ◌&&◌, not, Option, Some, None}
+use Rattle.std.specs.List.{Contains, list_any, range_with_len}
+use Rattle.std.specs.Option.{option_map_or}
+use Rattle.np_addr.specs.Addresses.{IsAddress, family_of}
+use Rattle.np_unused.specs.Types.{At, Decider, End, EstateLists, Family, Four, Free, Isolated, NoSide, Pod, PortSpot, RuleName, RuleRef, Six, Tier}
+use Rattle.np_conns.specs.Conns.{is_spot}
+use Rattle.np_model.specs.Families.{families_of}
+use Rattle.np_explain.specs.RightParts.{all_spots, same_rule}
+use Rattle.np_explain.specs.Sides.{are_one_pod, decider_between}
+use Rattle.np_unused.specs.Rules.{all_rules, rule_name}
+use Rattle.np_unused.specs.declared.rule_ref.Tier.TheVariants as tier
+use Rattle.np_rules.specs.declared.decider.Decider.TheVariants.{Admin, Net, Base}
+
+-- ---- rules in deciders
+
+-- the admin rule in a decider: the rule that decides, or the one with Pass that was met
+abbrev pub admin_rule_in : Decider → Option RuleName
+admin_rule_in NoSide = None
+admin_rule_in (Admin rule allow) = Some rule
+admin_rule_in (Net pass rule) = pass
+admin_rule_in (Isolated pass policies) = pass
+admin_rule_in (Base pass rule allow) = pass
+admin_rule_in (Free pass) = pass
+
+abbrev pub net_rule_in : Decider → Option RuleName
+net_rule_in (Net pass rule) = Some rule
+net_rule_in other = None
+
+abbrev pub base_rule_in : Decider → Option RuleName
+base_rule_in (Base pass rule allow) = Some rule
+base_rule_in other = None
+
+-- the rule of a tier in a decider
+abbrev pub rule_in : Tier → Decider → Option RuleName
+rule_in tier.Admin decider = admin_rule_in decider
+rule_in tier.Net decider = net_rule_in decider
+rule_in tier.Base decider = base_rule_in decider
+
+-- whether a rule stands in a decider, as the rule or as the Pass that was met
+abbrev pub stands_in : EstateLists → RuleRef → Decider → Bool
+stands_in lists rule decider = option_map_or (same_rule (rule_name lists rule)) (rule_in rule.tier decider) false
+
+-- ---- listed ends
+
+-- the first pods
+unfoldable pub pod_ends : ℕ → List End
+pod_ends count = map Pod (range_with_len 0 count)
+
+-- the first addresses of a family
+unfoldable pub four_ends : ℕ → List End
+four_ends count = map (λ number. At (Four number)) (range_with_len 0 count)
+
+unfoldable pub six_ends : ℕ → List End
+six_ends count = map (λ number. At (Six number)) (range_with_len 0 count)
+
+-- the pods of the estate, and all addresses
+unfoldable pub listed_ends : EstateLists → List End
+listed_ends lists = pod_ends (length lists.pods) ++ four_ends (2 ^ 32) ++ six_ends (2 ^ 128)
+
+-- The families of the packets between two ends: that of the end that is an address, and of the source where both are;
+-- between pods those of the estate.
+abbrev pub families_between : EstateLists → End → End → List Family
+families_between lists (At a) destination = family_of a ∷ []
+families_between lists (Pod p) (At a) = family_of a ∷ []
+families_between lists (Pod p) (Pod q) = families_of lists.pods
+
+-- ---- use
+
+-- whether a rule stands in the decider, on its side, of some packet of a family between two ends
+abbrev pub is_used_in : EstateLists → RuleRef → End → End → Family → Bool
+is_used_in lists rule source destination family = list_any (λ spot. stands_in lists rule (decider_between lists rule.direction source destination family spot)) all_spots
+
+-- whether it does of some packet between two ends, which are not one pod
+abbrev pub is_used_between : EstateLists → RuleRef → End → End → Bool
+is_used_between lists rule source destination = not (are_one_pod source destination) && list_any (is_used_in lists rule source destination) (families_between lists source destination)
+
+-- whether it does of some packet between listed ends
+unfoldable pub is_used : EstateLists → RuleRef → Bool
+is_used lists rule = list_any (λ source. list_any (is_used_between lists rule source) (listed_ends lists)) (listed_ends lists)
+
+-- the rules that are not used, in the order of all rules
+unfoldable pub unused_of : EstateLists → List RuleRef
+unused_of lists = filter (λ rule. not (is_used lists rule)) (all_rules lists)
+
+-- ---- packets
+
+-- the end is a pod of the estate, or an address
+abbrev pub IsListed : EstateLists → End → Type 0
+IsListed lists (Pod p) = p < length lists.pods
+IsListed lists (At a) = IsAddress a
+
+-- a packet between listed ends, by its ends, its family, and its protocol and port
+pub record IsListedPacket (lists : EstateLists) (from to : End) (family : Family) (spot : PortSpot) : Type 0 where
+  pub source : IsListed lists from
+  pub destination : IsListed lists to
+  pub apart : are_one_pod from to ≡ false
+  pub of_family : Contains (families_between lists from to) family
+  pub at_spot : is_spot spot ≡ true
+
+-- a rule stands in the decider, on its side, of the packet
+abbrev pub StandsIn : EstateLists → RuleRef → End → End → Family → PortSpot → Type 0
+StandsIn lists rule source destination family spot = rule_in rule.tier (decider_between lists rule.direction source destination family spot) ≡ Some (rule_name lists rule)

@@ -1,0 +1,142 @@
+-- What a search for used rules has found.
+use Rattle.std.specs.Prelude.{◌≡◌, ℕ, ◌<◌, List, Bool, true, ◌&&◌, ◌||◌, not, Some, slice_get}
+use Rattle.std.specs.List.{Contains}
+use Rattle.np_unused.specs.Types.{Decider, Direction, Egress, EstateLists, Family, Ingress, KindPod, Kinds, LayerRules, RuleRef, Search, Tier, UsedRules}
+use Rattle.np_conns.specs.Conns.{is_spot}
+use Rattle.np_model.specs.Families.{families_of}
+use Rattle.np_model.specs.Lawful.{IsLawful}
+use Rattle.np_explain.specs.Marks.{admin_rules, base_rules, net_rules}
+use Rattle.np_unused.specs.Rules.{rule_count_at}
+use Rattle.np_unused.specs.Used.{is_used, stands_in}
+use Rattle.np_unused.specs.steps.Kinds.{AreKindPods, is_asked}
+use Rattle.np_unused.specs.steps.Known.{are_known, is_known}
+use Rattle.np_reach.specs.Reach.{may_at, may_reach, reach_of}
+use Rattle.np_rules.specs.Deciders.{decider}
+use Rattle.np_rules.specs.model.Ends.{Contact, pod}
+use Rattle.np_rules.specs.EveryAddress.{is_place}
+use Rattle.np_rules.specs.LayerRules.{NamesAdmin, NamesBase, NamesNet}
+use Rattle.np_rules.specs.Layers.{Pairwise}
+use Rattle.np_rules.specs.PodSides.{PodSide, near_pod, side_of, with_addresses, with_pod}
+use Rattle.np_rules.specs.model.Verdict.{pod_at}
+use Rattle.np_kinds.specs.Kinds.{first_ends}
+
+-- ---- rules of one direction
+
+abbrev pub ref_of : Direction → Tier → ℕ → ℕ → RuleRef
+ref_of direction tier policy place = record { tier = tier; policy = policy; direction = direction; place = place }
+
+-- what was known stays known
+abbrev pub Grows : UsedRules → UsedRules → Type 0
+Grows old new = (tier : Tier) (policy place : ℕ) → is_known old tier policy place ≡ true → is_known new tier policy place ≡ true
+
+-- the rules of the estate that are known are used
+unfoldable pub IsSound : EstateLists → Direction → UsedRules → Type 0
+IsSound lists direction used = (tier : Tier) (policy place : ℕ)
+    → place < rule_count_at lists tier direction policy → is_known used tier policy place ≡ true → is_used lists (ref_of direction tier policy place) ≡ true
+
+-- the rules of the estate that stand in a decider are known
+unfoldable pub Knows : EstateLists → Direction → UsedRules → Decider → Type 0
+Knows lists direction used decides = (tier : Tier) (policy place : ℕ)
+    → place < rule_count_at lists tier direction policy → stands_in lists (ref_of direction tier policy place) decides ≡ true → is_known used tier policy place ≡ true
+
+-- they are used
+unfoldable pub AreUsed : EstateLists → Direction → Decider → Type 0
+AreUsed lists direction decides = (tier : Tier) (policy place : ℕ)
+    → place < rule_count_at lists tier direction policy → stands_in lists (ref_of direction tier policy place) decides ≡ true → is_used lists (ref_of direction tier policy place) ≡ true
+
+-- ---- one side
+
+-- the rules are those of the side, place by place
+pub record AreRulesOf (side : PodSide) (rules : LayerRules) : Type 0 where
+  pub admin : Pairwise (NamesAdmin side.lists.admin_policies) rules.admin (admin_rules side)
+  pub net : Pairwise (NamesNet side.lists.net_policies) rules.net (net_rules side)
+  pub base : Pairwise NamesBase rules.base (base_rules side)
+
+-- what decides something that the side looks at
+abbrev pub side_decider : PodSide → Contact → Decider
+side_decider side looks_at = decider side.lists side.direction (pod (near_pod side)) looks_at
+
+-- whatever stands in what decides there is known
+abbrev pub KnowsAll : {Spot : Type 0} → (Spot → Bool) → PodSide → (PodSide → Spot → Contact) → UsedRules → Type 0
+KnowsAll {Spot} in_space side looks_at used = (spot : Spot) → in_space spot ≡ true → Knows side.lists side.direction used (side_decider side (looks_at side spot))
+
+-- it is used
+abbrev pub AllAreUsed : {Spot : Type 0} → (Spot → Bool) → PodSide → (PodSide → Spot → Contact) → Type 0
+AllAreUsed {Spot} in_space side looks_at = (spot : Spot) → in_space spot ≡ true → AreUsed side.lists side.direction (side_decider side (looks_at side spot))
+
+-- ---- the side of a kind
+
+-- whatever stands in what decides with a kind as the far end, which is asked for, is known, in packets of a family
+abbrev pub KnowsFar : PodSide → List KindPod → ℕ → Family → ℕ → UsedRules → Type 0
+KnowsFar side kinds near family kind used = (far : KindPod) → slice_get kinds kind ≡ Some far → is_asked near kind far ≡ true → KnowsAll is_spot side (with_pod far.pod family) used
+
+-- with all kinds
+unfoldable pub KnowsPods : PodSide → List KindPod → ℕ → Family → UsedRules → Type 0
+KnowsPods side kinds near family used = (kind : ℕ) → KnowsFar side kinds near family kind used
+
+-- what decides there is used
+unfoldable pub PodsAreUsed : PodSide → List KindPod → ℕ → Family → Type 0
+PodsAreUsed side kinds near family = (kind : ℕ) (far : KindPod) → slice_get kinds kind ≡ Some far → is_asked near kind far ≡ true → AllAreUsed is_spot side (with_pod far.pod family)
+
+-- in each family of the estate
+abbrev pub KnowsFamilies : PodSide → List KindPod → ℕ → UsedRules → Type 0
+KnowsFamilies side kinds near used = (family : Family) → Contains (families_of side.lists.pods) family → KnowsPods side kinds near family used
+
+-- and with all addresses
+pub record KnowsSide (side : PodSide) (kinds : List KindPod) (near : ℕ) (used : UsedRules) : Type 0 where
+  pub addresses : KnowsAll is_place side with_addresses used
+  pub pods : KnowsFamilies side kinds near used
+
+-- so it is for the side of the pod that stands for a kind
+abbrev pub KnowsKind : EstateLists → Direction → List KindPod → ℕ → UsedRules → Type 0
+KnowsKind lists direction kinds near used = (one : KindPod) → slice_get kinds near ≡ Some one → KnowsSide (side_of lists one.pod direction) kinds near used
+
+-- for all kinds
+unfoldable pub KnowsSides : EstateLists → Direction → List KindPod → UsedRules → Type 0
+KnowsSides lists direction kinds used = (near : ℕ) → KnowsKind lists direction kinds near used
+
+-- ---- what a search goes by
+
+-- the pods stand for the kinds of the estate, and it is known what they may let through
+pub record AreKinds (kinds : Kinds) : Type 0 where
+  pub lawful : IsLawful kinds.estate.now
+  pub pods : AreKindPods kinds.estate.now kinds.pods.now
+  pub reach : kinds.reach.now ≡ reach_of kinds.estate.now kinds.direction (first_ends kinds.estate.now)
+
+-- seen from the side of one of them, of which these are the rules; what decides what the side looks at is used
+pub record IsSearchOf (estate : EstateLists) (side : PodSide) (pods : List KindPod) (marks : List (List Bool)) (near : ℕ) (ids : LayerRules) : Type 0 where
+  pub estate_is : estate ≡ side.lists
+  pub lawful : IsLawful side.lists
+  pub kinds : AreKindPods side.lists pods
+  pub rules : AreRulesOf side ids
+  pub addresses : AllAreUsed is_place side with_addresses
+  pub families : (family : Family) → Contains (families_of side.lists.pods) family → PodsAreUsed side pods near family
+  pub reach : (kind : ℕ) (far : KindPod) → slice_get pods kind ≡ Some far → may_at marks near kind ≡ may_reach side.lists side.direction (near_pod side) (pod (pod_at side.lists far.pod))
+
+abbrev pub IsSearch : Search → Type 0
+IsSearch search = IsSearchOf search.kinds.estate.now search.side.now search.kinds.pods.now search.kinds.reach.now search.near search.rules.now
+
+-- Whether a kind may tell of a rule that is not known: it is asked for, and may be let through, or there are admin
+-- rules that are not known.
+abbrev pub may_tell : Search → UsedRules → ℕ → KindPod → Bool
+may_tell search used kind far = is_asked search.near kind far && (may_at search.kinds.reach.now search.near kind || not (are_known used.admin search.rules.now.admin))
+
+-- ---- what a search finds
+
+-- A step of the search: what was known stays known, nothing more is known than is used, and so it is found.
+pub record Searched (lists : EstateLists) (direction : Direction) (Found : UsedRules → Type 0) (old new : UsedRules) : Type 0 where
+  pub grows : Grows old new
+  pub sound : IsSound lists direction old → IsSound lists direction new
+  pub finds : Found new
+
+-- the rules of the direction that are known are those that are used
+unfoldable pub Finds : EstateLists → Direction → UsedRules → Type 0
+Finds lists direction used = (tier : Tier) (policy place : ℕ) → place < rule_count_at lists tier direction policy → is_known used tier policy place ≡ is_used lists (ref_of direction tier policy place)
+
+-- whether a rule is known, by what is known of its direction
+abbrev pub known_in : UsedRules → UsedRules → Direction → UsedRules
+known_in ingress egress Ingress = ingress
+known_in ingress egress Egress = egress
+
+abbrev pub is_known_by : UsedRules → UsedRules → RuleRef → Bool
+is_known_by ingress egress rule = is_known (known_in ingress egress rule.direction) rule.tier rule.policy rule.place

@@ -1,0 +1,216 @@
+//! The search for the rules that are used.
+ghost use Rattle.std.specs.Prelude.{◌≡◌, ◌<◌, ◌≤◌, Some, slice_get, length, IfOk, OnOk};
+ghost use Rattle.std.specs.List.{Contains};
+ghost use Rattle.np_unused.specs.declared.kind_pods.KindPod.{KindPod as SpecPod};
+ghost use Rattle.np_unused.specs.steps.Kinds.{is_asked};
+ghost use Rattle.np_unused.specs.steps.Search.{AreKinds, Finds, IsSearch, KnowsAll, KnowsFamilies};
+ghost use Rattle.np_unused.specs.steps.Search.{KnowsFar, KnowsKind, KnowsPods, KnowsSide, Searched, may_tell};
+ghost use Rattle.np_model.specs.Families.{families_of};
+ghost use Rattle.np_reach.specs.Reach.{reach_of};
+ghost use Rattle.np_rules.specs.EveryAddress.{is_place};
+ghost use Rattle.np_rules.specs.PodSides.{with_addresses};
+ghost use Rattle.np_kinds.specs.Kinds.{first_ends};
+
+use crate::kind_pods::{KindPod, kind_pods};
+use crate::used_rules::{UsedRules, has_each};
+use np_addr::Family;
+use np_base::{NoMemory, Steps};
+use np_fold::Folded;
+use np_model::{Direction, Estate};
+use np_reach::Reach;
+use np_rules::{LayerRules, PodRules};
+use std::alloc::Global;
+use std::sync::ledger::Ledger;
+
+/// The kinds of workloads of a cluster in a direction: the pods that stand for them, and which of them the side of each may
+/// let through at all.
+#[derive(Clone, Copy)]
+pub(crate) struct Kinds<'e, 'p> {
+    pub alloc: Global,
+    pub estate: &'e Estate,
+    pub direction: Direction,
+    pub pods: &'p [KindPod],
+    pub reach: &'e Reach,
+}
+
+/// The side of the pod that stands for a kind, and the rules that speak of that pod.
+#[derive(Clone, Copy)]
+pub(crate) struct Search<'e, 'p, 's> {
+    pub kinds: Kinds<'e, 'p>,
+    pub near: usize,
+    pub side: &'s PodRules<'e>,
+    pub rules: &'s LayerRules,
+}
+
+impl Search<'_, '_, '_> {
+    /// Whether the pod of a kind as the far end may tell of a rule that is not known yet. Of a far end that the side lets
+    /// through in no case, NetworkPolicies and the baseline decide nothing, so that it tells of admin rules alone.
+    fn may_tell(&self, kind: usize, used: &UsedRules) -> bool
+        requires { kind < length self.now.kinds.pods.now }
+        ensures { (far : SpecPod) → slice_get self.now.kinds.pods.now kind ≡ Some far →
+            result ≡ may_tell self.now used.now kind far }
+    {
+        is_asked(self.near, kind, &self.kinds.pods[kind])
+            && (self.kinds.reach.may(self.near, kind)
+                || !has_each(&used.admin, self.rules.admin.items()))
+    }
+}
+
+/// The rules of a direction that are used, by what the first pods of the kinds may let through. The rules of each kind of
+/// pods are looked at with all addresses as far ends, and then with each kind, until all of them are known.
+pub(crate) fn used_rules<L: Ledger>(
+    alloc: Global,
+    folded: &Folded,
+    reach: &Reach,
+    direction: Direction,
+    steps: &mut Steps<L>,
+) -> Result<UsedRules, NoMemory>
+    requires reach { reach.now ≡ reach_of folded.now direction (first_ends folded.now) }
+    ensures all { IfOk result (λ used. Finds folded.now direction used) }
+    ensures least { steps.old ≤ steps.new }
+{
+    let pods = kind_pods(alloc, folded)?;
+    let kinds = Kinds {
+        alloc,
+        estate: folded.estate(),
+        direction,
+        pods: &pods,
+        reach,
+    };
+    let mut used = UsedRules::none(alloc);
+    for near in 0..pods.len() {
+        search_side(&kinds, near, &mut used, steps)?;
+    }
+    Ok(used)
+}
+
+// Looks for the rules of the pod that stands for a kind.
+fn search_side<L: Ledger>(
+    kinds: &Kinds<'_, '_>,
+    near: usize,
+    used: &mut UsedRules,
+    steps: &mut Steps<L>,
+) -> Result<(), NoMemory>
+    requires kinds { AreKinds kinds.now }
+    requires near { near < length kinds.now.pods.now }
+    ensures searched { OnOk result (Searched kinds.now.estate.now kinds.now.direction
+        (KnowsKind kinds.now.estate.now kinds.now.direction kinds.now.pods.now near) used.old used.new) }
+    ensures least { steps.old ≤ steps.new }
+{
+    let pod = kinds.pods[near].pod;
+    let side = PodRules::of(kinds.alloc, kinds.estate, pod, kinds.direction)?;
+    let rules = side.names(kinds.alloc)?;
+    let search = Search {
+        kinds: *kinds,
+        near,
+        side: &side,
+        rules: &rules,
+    };
+    search_ends(&search, used, steps)
+}
+
+// Looks for the rules of a side with all far ends, unless all are known.
+fn search_ends<L: Ledger>(
+    search: &Search<'_, '_, '_>,
+    used: &mut UsedRules,
+    steps: &mut Steps<L>,
+) -> Result<(), NoMemory>
+    requires { IsSearch search.now }
+    ensures searched { OnOk result (Searched search.now.side.now.lists search.now.side.now.direction
+        (KnowsSide search.now.side.now search.now.kinds.pods.now search.now.near) used.old used.new) }
+    ensures least { steps.old ≤ steps.new }
+{
+    if used.has_all(search.rules) {
+        return Ok(());
+    }
+    search_addresses(search, used, steps)?;
+    search_families(search, search.kinds.estate.families(), used, steps)
+}
+
+// Looks for the rules of a side with all addresses as far ends.
+fn search_addresses<L: Ledger>(
+    search: &Search<'_, '_, '_>,
+    used: &mut UsedRules,
+    steps: &mut Steps<L>,
+) -> Result<(), NoMemory>
+    requires { IsSearch search.now }
+    ensures searched { OnOk result (Searched search.now.side.now.lists search.now.side.now.direction
+        (KnowsAll is_place search.now.side.now with_addresses) used.old used.new) }
+    ensures least { steps.old ≤ steps.new }
+{
+    let layer = search.side.address_layer(search.kinds.alloc, steps)?;
+    used.note_layer(search.kinds.alloc, layer, search.rules)
+}
+
+// Looks for the rules of a side with the pods of all kinds as far ends, in packets of the families of the estate.
+fn search_families<L: Ledger>(
+    search: &Search<'_, '_, '_>,
+    families: &[Family],
+    used: &mut UsedRules,
+    steps: &mut Steps<L>,
+) -> Result<(), NoMemory>
+    requires search { IsSearch search.now }
+    requires families { families.now ≡ families_of search.now.side.now.lists.pods }
+    ensures searched { OnOk result (Searched search.now.side.now.lists search.now.side.now.direction
+        (KnowsFamilies search.now.side.now search.now.kinds.pods.now search.now.near) used.old used.new) }
+    ensures least { steps.old ≤ steps.new }
+{
+    for family in families {
+        search_pods(search, *family, used, steps)?;
+    }
+    Ok(())
+}
+
+// Looks for the rules of a side with the pods of all kinds as far ends, until all are known.
+fn search_pods<L: Ledger>(
+    search: &Search<'_, '_, '_>,
+    family: Family,
+    used: &mut UsedRules,
+    steps: &mut Steps<L>,
+) -> Result<(), NoMemory>
+    requires search { IsSearch search.now }
+    requires family { Contains (families_of search.now.side.now.lists.pods) family }
+    ensures searched { OnOk result (Searched search.now.side.now.lists search.now.side.now.direction
+        (KnowsPods search.now.side.now search.now.kinds.pods.now search.now.near family) used.old used.new) }
+    ensures least { steps.old ≤ steps.new }
+{
+    for kind in 0..search.kinds.pods.len() {
+        if used.has_all(search.rules) {
+            return Ok(());
+        }
+        search_kind(search, kind, family, used, steps)?;
+    }
+    Ok(())
+}
+
+// Looks for the rules of a side with the pod of a kind as the far end, where it may tell of any.
+fn search_kind<L: Ledger>(
+    search: &Search<'_, '_, '_>,
+    kind: usize,
+    family: Family,
+    used: &mut UsedRules,
+    steps: &mut Steps<L>,
+) -> Result<(), NoMemory>
+    requires search { IsSearch search.now }
+    requires kind { kind < length search.now.kinds.pods.now }
+    requires family { Contains (families_of search.now.side.now.lists.pods) family }
+    ensures searched { OnOk result (Searched search.now.side.now.lists search.now.side.now.direction
+        (KnowsFar search.now.side.now search.now.kinds.pods.now search.now.near family kind) used.old used.new) }
+    ensures least { steps.old ≤ steps.new }
+{
+    if !search.may_tell(kind, used) {
+        return Ok(());
+    }
+    let far = search.kinds.pods[kind].pod;
+    let layer = search
+        .side
+        .pod_layer(search.kinds.alloc, far, family, steps)?;
+    used.note_layer(search.kinds.alloc, layer, search.rules)
+}
+
+// Whether a kind is asked for with another one, or with itself: it has to have two pods then.
+fn is_asked(near: usize, kind: usize, far: &KindPod) -> bool
+    ensures { result ≡ is_asked near kind far.now }
+{
+    kind != near || far.is_shared
+}
