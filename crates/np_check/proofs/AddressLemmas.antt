@@ -8,7 +8,7 @@ use Rattle.np_check.specs.Types.{Address, At, Broken, Counterexample, Egress, Es
 use Rattle.np_check.proofs.BrokenLemmas.{broken_by}
 use Rattle.np_check.proofs.FirstLemmas.{first_of-append, first_of-none, first_of-one, first_of-option_map, first_of-same, from_either}
 use Rattle.np_check.proofs.MergeLemmas.{addresses-ascend, merge}
-use Rattle.np_check.specs.Counters.{addresses_of, breaks, counter_at, counter_between, counter_in, families_between, number_of_address}
+use Rattle.np_check.specs.Counterexamples.{addresses_of, breaks, counterexample_at, counterexample_between, counterexample_in, families_between, number_of_address}
 use Rattle.np_check.specs.Firsts.{first_of, first_spot}
 use Rattle.np_check.specs.steps.Broken.{broken_at, earlier, first_broken_of}
 use Rattle.np_conns.specs.Conns.{Conns}
@@ -30,111 +30,111 @@ map_map : {X Y Z : Type 0} (to : Y → Z) (from : X → Y) (found : Option X) �
 map_map to from None = refl
 map_map to from (Some x) = refl
 
-abbrev pub counter_to : ℕ → Broken → Counterexample
-counter_to work broken = counter_at (At broken.address) (Work work) (family_of broken.address) broken.spot
+abbrev pub counterexample_to : ℕ → Broken → Counterexample
+counterexample_to work broken = counterexample_at (At broken.address) (Work work) (family_of broken.address) broken.spot
 
-abbrev pub counter_by : ℕ → Broken → Counterexample
-counter_by work broken = counter_at (Work work) (At broken.address) (family_of broken.address) broken.spot
+abbrev pub counterexample_by : ℕ → Broken → Counterexample
+counterexample_by work broken = counterexample_at (Work work) (At broken.address) (family_of broken.address) broken.spot
 
 between_to : (lists : EstateLists) (wanted : Wanted) (conns : Conns) (work : ℕ) (address : Address) →
-    counter_between lists wanted conns (At address) (Work work) ≡ option_map (counter_to work) (broken_at wanted conns (address_allows lists (folding_of lists) work Ingress) address)
-unfolding counter_between
+    counterexample_between lists wanted conns (At address) (Work work) ≡ option_map (counterexample_to work) (broken_at wanted conns (address_allows lists (folding_of lists) work Ingress) address)
+unfolding counterexample_between
 between_to lists wanted conns work address =
-    first_of-one (counter_in lists wanted conns (At address) (Work work)) (family_of address)
-    ∙ map_map (counter_to work) (broken_by address) (first_spot (breaks wanted conns (address_allows lists (folding_of lists) work Ingress (family_of address) (number_of_address address))))
+    first_of-one (counterexample_in lists wanted conns (At address) (Work work)) (family_of address)
+    ∙ map_map (counterexample_to work) (broken_by address) (first_spot (breaks wanted conns (address_allows lists (folding_of lists) work Ingress (family_of address) (number_of_address address))))
 
 between_by : (lists : EstateLists) (wanted : Wanted) (conns : Conns) (work : ℕ) (address : Address) →
-    counter_between lists wanted conns (Work work) (At address) ≡ option_map (counter_by work) (broken_at wanted conns (address_allows lists (folding_of lists) work Egress) address)
-unfolding counter_between
+    counterexample_between lists wanted conns (Work work) (At address) ≡ option_map (counterexample_by work) (broken_at wanted conns (address_allows lists (folding_of lists) work Egress) address)
+unfolding counterexample_between
 between_by lists wanted conns work address =
-    first_of-one (counter_in lists wanted conns (Work work) (At address)) (family_of address)
-    ∙ map_map (counter_by work) (broken_by address) (first_spot (breaks wanted conns (address_allows lists (folding_of lists) work Egress (family_of address) (number_of_address address))))
+    first_of-one (counterexample_in lists wanted conns (Work work) (At address)) (family_of address)
+    ∙ map_map (counterexample_by work) (broken_by address) (first_spot (breaks wanted conns (address_allows lists (folding_of lists) work Egress (family_of address) (number_of_address address))))
 
 -- from addresses to a workload
 pub all_to : (lists : EstateLists) (wanted : Wanted) (conns : Conns) (work : ℕ) (block : AddressRanges) (found : Option Broken) →
     found ≡ first_broken_of wanted conns block (address_allows lists (folding_of lists) work Ingress) →
-    option_map (counter_to work) found ≡ first_of (λ address. counter_between lists wanted conns (At address) (Work work)) (addresses_of block)
+    option_map (counterexample_to work) found ≡ first_of (λ address. counterexample_between lists wanted conns (At address) (Work work)) (addresses_of block)
 unfolding first_broken_of
 all_to lists wanted conns work block found is =
-    ap (option_map (counter_to work)) is
-    ∙ sym (first_of-option_map (broken_at wanted conns (address_allows lists (folding_of lists) work Ingress)) (counter_to work) (addresses_of block))
-    ∙ sym (first_of-same (λ address. counter_between lists wanted conns (At address) (Work work))
-    (λ address. option_map (counter_to work) (broken_at wanted conns (address_allows lists (folding_of lists) work Ingress) address)) (addresses_of block) (between_to lists wanted conns work))
+    ap (option_map (counterexample_to work)) is
+    ∙ sym (first_of-option_map (broken_at wanted conns (address_allows lists (folding_of lists) work Ingress)) (counterexample_to work) (addresses_of block))
+    ∙ sym (first_of-same (λ address. counterexample_between lists wanted conns (At address) (Work work))
+    (λ address. option_map (counterexample_to work) (broken_at wanted conns (address_allows lists (folding_of lists) work Ingress) address)) (addresses_of block) (between_to lists wanted conns work))
 
 -- and from a workload to addresses
 pub all_by : (lists : EstateLists) (wanted : Wanted) (conns : Conns) (work : ℕ) (block : AddressRanges) (found : Option Broken) →
     found ≡ first_broken_of wanted conns block (address_allows lists (folding_of lists) work Egress) →
-    option_map (counter_by work) found ≡ first_of (λ address. counter_between lists wanted conns (Work work) (At address)) (addresses_of block)
+    option_map (counterexample_by work) found ≡ first_of (λ address. counterexample_between lists wanted conns (Work work) (At address)) (addresses_of block)
 unfolding first_broken_of
 all_by lists wanted conns work block found is =
-    ap (option_map (counter_by work)) is
-    ∙ sym (first_of-option_map (broken_at wanted conns (address_allows lists (folding_of lists) work Egress)) (counter_by work) (addresses_of block))
-    ∙ sym (first_of-same (λ address. counter_between lists wanted conns (Work work) (At address))
-    (λ address. option_map (counter_by work) (broken_at wanted conns (address_allows lists (folding_of lists) work Egress) address)) (addresses_of block) (between_by lists wanted conns work))
+    ap (option_map (counterexample_by work)) is
+    ∙ sym (first_of-option_map (broken_at wanted conns (address_allows lists (folding_of lists) work Egress)) (counterexample_by work) (addresses_of block))
+    ∙ sym (first_of-same (λ address. counterexample_between lists wanted conns (Work work) (At address))
+    (λ address. option_map (counterexample_by work) (broken_at wanted conns (address_allows lists (folding_of lists) work Egress) address)) (addresses_of block) (between_by lists wanted conns work))
 
 -- ---- what is found is from its source
 
-none_some : (counter : Counterexample) → None ≡ Some counter → ⊥
-none_some counter same = cc
+none_some : (counterexample : Counterexample) → None ≡ Some counterexample → ⊥
+none_some counterexample same = cc
 
-same_counter : (one other : Counterexample) → Some one ≡ Some other → one ≡ other
-same_counter one other same = cc
+same_counterexample : (one other : Counterexample) → Some one ≡ Some other → one ≡ other
+same_counterexample one other same = cc
 
-source_at : (source destination : PlaceEnd) (family : Family) (found : Option PortSpot) (counter : Counterexample) → option_map (counter_at source destination family) found ≡ Some counter →
-    counter.source ≡ source
-source_at source destination family None counter is = absurd (none_some counter is)
-source_at source destination family (Some spot) counter is = sym (ap (λ (c : Counterexample). c.source) (same_counter (counter_at source destination family spot) counter is))
+source_at : (source destination : PlaceEnd) (family : Family) (found : Option PortSpot) (counterexample : Counterexample) → option_map (counterexample_at source destination family) found ≡ Some counterexample →
+    counterexample.source ≡ source
+source_at source destination family None counterexample is = absurd (none_some counterexample is)
+source_at source destination family (Some spot) counterexample is = sym (ap (λ (c : Counterexample). c.source) (same_counterexample (counterexample_at source destination family spot) counterexample is))
 
-source_in : (lists : EstateLists) (wanted : Wanted) (conns : Conns) (source destination : PlaceEnd) (families : List Family) (counter : Counterexample) →
-    first_of (counter_in lists wanted conns source destination) families ≡ Some counter → counter.source ≡ source
-source_in lists wanted conns source destination [] counter is = absurd (none_some counter is)
-source_in lists wanted conns source destination (family ∷ families) counter is =
-    elim (from_either (counter_in lists wanted conns source destination family) (first_of (counter_in lists wanted conns source destination) families) counter is) [
-      | inl here ↦ source_at source destination family _ counter here
-      | inr later ↦ source_in lists wanted conns source destination families counter later
+source_in : (lists : EstateLists) (wanted : Wanted) (conns : Conns) (source destination : PlaceEnd) (families : List Family) (counterexample : Counterexample) →
+    first_of (counterexample_in lists wanted conns source destination) families ≡ Some counterexample → counterexample.source ≡ source
+source_in lists wanted conns source destination [] counterexample is = absurd (none_some counterexample is)
+source_in lists wanted conns source destination (family ∷ families) counterexample is =
+    elim (from_either (counterexample_in lists wanted conns source destination family) (first_of (counterexample_in lists wanted conns source destination) families) counterexample is) [
+      | inl here ↦ source_at source destination family _ counterexample here
+      | inr later ↦ source_in lists wanted conns source destination families counterexample later
     ]
 
-source_of : (lists : EstateLists) (wanted : Wanted) (conns : Conns) (source destination : PlaceEnd) (counter : Counterexample) → counter_between lists wanted conns source destination ≡ Some counter →
-    counter.source ≡ source
-unfolding counter_between
-source_of lists wanted conns source destination counter is = source_in lists wanted conns source destination (families_between lists source destination) counter is
+source_of : (lists : EstateLists) (wanted : Wanted) (conns : Conns) (source destination : PlaceEnd) (counterexample : Counterexample) → counterexample_between lists wanted conns source destination ≡ Some counterexample →
+    counterexample.source ≡ source
+unfolding counterexample_between
+source_of lists wanted conns source destination counterexample is = source_in lists wanted conns source destination (families_between lists source destination) counterexample is
 
-source_of_all : (lists : EstateLists) (wanted : Wanted) (conns : Conns) (source : PlaceEnd) (works : List ℕ) (counter : Counterexample) →
-    first_of (λ work. counter_between lists wanted conns source (Work work)) works ≡ Some counter → counter.source ≡ source
-source_of_all lists wanted conns source [] counter is = absurd (none_some counter is)
-source_of_all lists wanted conns source (work ∷ works) counter is =
-    elim (from_either (counter_between lists wanted conns source (Work work)) (first_of (λ work. counter_between lists wanted conns source (Work work)) works) counter is) [
-      | inl here ↦ source_of lists wanted conns source (Work work) counter here
-      | inr later ↦ source_of_all lists wanted conns source works counter later
+source_of_all : (lists : EstateLists) (wanted : Wanted) (conns : Conns) (source : PlaceEnd) (works : List ℕ) (counterexample : Counterexample) →
+    first_of (λ work. counterexample_between lists wanted conns source (Work work)) works ≡ Some counterexample → counterexample.source ≡ source
+source_of_all lists wanted conns source [] counterexample is = absurd (none_some counterexample is)
+source_of_all lists wanted conns source (work ∷ works) counterexample is =
+    elim (from_either (counterexample_between lists wanted conns source (Work work)) (first_of (λ work. counterexample_between lists wanted conns source (Work work)) works) counterexample is) [
+      | inl here ↦ source_of lists wanted conns source (Work work) counterexample here
+      | inr later ↦ source_of_all lists wanted conns source works counterexample later
     ]
 
 -- ---- one workload more
 
 pub no_works : (lists : EstateLists) (wanted : Wanted) (conns : Conns) (block : AddressRanges) →
-    None ≡ first_of (λ address. first_of (λ work. counter_between lists wanted conns (At address) (Work work)) []) (addresses_of block)
-no_works lists wanted conns block = sym (first_of-none (λ (address : Address). first_of (λ work. counter_between lists wanted conns (At address) (Work work)) []) (addresses_of block)
+    None ≡ first_of (λ address. first_of (λ work. counterexample_between lists wanted conns (At address) (Work work)) []) (addresses_of block)
+no_works lists wanted conns block = sym (first_of-none (λ (address : Address). first_of (λ work. counterexample_between lists wanted conns (At address) (Work work)) []) (addresses_of block)
     (λ address. refl))
 
 to_more : (lists : EstateLists) (wanted : Wanted) (conns : Conns) (works : List ℕ) (i : ℕ) (address : Address) → i < length works →
-    option_or (first_of (λ work. counter_between lists wanted conns (At address) (Work work)) (take i works)) (counter_between lists wanted conns (At address) (Work (get_or works i 0))) ≡ first_of
-    (λ work. counter_between lists wanted conns (At address) (Work work)) (take (i + 1) works)
+    option_or (first_of (λ work. counterexample_between lists wanted conns (At address) (Work work)) (take i works)) (counterexample_between lists wanted conns (At address) (Work (get_or works i 0))) ≡ first_of
+    (λ work. counterexample_between lists wanted conns (At address) (Work work)) (take (i + 1) works)
 to_more lists wanted conns works i address within =
-    let gives = λ (work : ℕ). counter_between lists wanted conns (At address) (Work work) in
+    let gives = λ (work : ℕ). counterexample_between lists wanted conns (At address) (Work work) in
     ap (λ last. option_or (first_of gives (take i works)) last) (sym (first_of-one gives (get_or works i 0)))
     ∙ sym (first_of-append gives (take i works) (get_or works i 0 ∷ []))
     ∙ ap (first_of gives) (sym (take_more works i 0 within))
 
 pub one_work_more : (lists : EstateLists) (wanted : Wanted) (conns : Conns) (block : AddressRanges) (works : List ℕ) (i : ℕ) (first found : Option Counterexample) → i < length works →
-    first ≡ first_of (λ address. first_of (λ work. counter_between lists wanted conns (At address) (Work work)) (take i works)) (addresses_of block) →
-    found ≡ first_of (λ address. counter_between lists wanted conns (At address) (Work (get_or works i 0))) (addresses_of block) →
-    earlier first found ≡ first_of (λ address. first_of (λ work. counter_between lists wanted conns (At address) (Work work)) (take (i + 1) works)) (addresses_of block)
+    first ≡ first_of (λ address. first_of (λ work. counterexample_between lists wanted conns (At address) (Work work)) (take i works)) (addresses_of block) →
+    found ≡ first_of (λ address. counterexample_between lists wanted conns (At address) (Work (get_or works i 0))) (addresses_of block) →
+    earlier first found ≡ first_of (λ address. first_of (λ work. counterexample_between lists wanted conns (At address) (Work work)) (take (i + 1) works)) (addresses_of block)
 one_work_more lists wanted conns block works i first found within first_is found_is =
-    let before = λ (address : Address). first_of (λ work. counter_between lists wanted conns (At address) (Work work)) (take i works) in
-    let own = λ (address : Address). counter_between lists wanted conns (At address) (Work (get_or works i 0)) in
-    let after = λ (address : Address). first_of (λ work. counter_between lists wanted conns (At address) (Work work)) (take (i + 1) works) in
+    let before = λ (address : Address). first_of (λ work. counterexample_between lists wanted conns (At address) (Work work)) (take i works) in
+    let own = λ (address : Address). counterexample_between lists wanted conns (At address) (Work (get_or works i 0)) in
+    let after = λ (address : Address). first_of (λ work. counterexample_between lists wanted conns (At address) (Work work)) (take (i + 1) works) in
     let both = λ (address : Address). option_or (before address) (own address) in
     ap (λ (one : Option Counterexample). earlier one found) first_is
     ∙ ap (λ (other : Option Counterexample). earlier (first_of before (addresses_of block)) other) found_is
-    ∙ sym (merge before own (addresses_of block) (λ address counter is. source_of_all lists wanted conns (At address) (take i works) counter is)
-    (λ address counter is. source_of lists wanted conns (At address) (Work (get_or works i 0)) counter is) (addresses-ascend block))
+    ∙ sym (merge before own (addresses_of block) (λ address counterexample is. source_of_all lists wanted conns (At address) (take i works) counterexample is)
+    (λ address counterexample is. source_of lists wanted conns (At address) (Work (get_or works i 0)) counterexample is) (addresses-ascend block))
     ∙ first_of-same both after (addresses_of block) (λ address. to_more lists wanted conns works i address within)

@@ -10,7 +10,7 @@ use Rattle.np_base.specs.Ranges.{IsAscending, holds}
 use Rattle.np_check.proofs.FirstLemmas.{first_of-append, first_of-filter, first_of-map, first_of-none, none_both, range-append}
 use Rattle.np_check.proofs.RangeLemmas.{first_number-is}
 use Rattle.np_check.proofs.SpotLemmas.{breaks-same}
-use Rattle.np_check.specs.Counters.{addresses_in, breaks}
+use Rattle.np_check.specs.Counterexamples.{addresses_in, breaks}
 use Rattle.np_check.specs.Firsts.{first_of, first_spot}
 use Rattle.np_check.specs.steps.Broken.{broken_at, broken_in, first_broken_of, first_number, with_spot}
 use Rattle.np_conns.specs.Conns.{Conns, has_spot}

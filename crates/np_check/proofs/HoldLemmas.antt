@@ -13,7 +13,7 @@ use Rattle.np_check.proofs.NoneLemmas.{both_none, is_whole, no_address, no_addre
 use Rattle.np_check.proofs.PairLemmas.{between-alone, between-apart, from-work}
 use Rattle.np_check.proofs.SortedLemmas.{filtered}
 use Rattle.np_check.proofs.WholeLemmas.{of-question}
-use Rattle.np_check.specs.Counters.{addresses_of, breaks, complies, counter_at, counter_between, counter_from, counter_in, counter_of, number_of_address}
+use Rattle.np_check.specs.Counterexamples.{addresses_of, breaks, complies, counterexample_at, counterexample_between, counterexample_from, counterexample_in, counterexample_of, number_of_address}
 use Rattle.np_check.specs.Firsts.{first_of, first_spot}
 use Rattle.np_check.specs.Holding.{HasAddress, Holds}
 use Rattle.np_check.specs.Numbers.{ascends_from}
@@ -29,46 +29,46 @@ use Rattle.np_kinds.specs.Between.{IsWorkload, address_allows, destination_pod, 
 -- ---- between two ends
 
 none_in : (lists : EstateLists) (wanted : Wanted) (conns : Conns) (source destination : PlaceEnd) (family : Family) (passes : PortSpot → Bool) (spot : PortSpot) →
-    option_map (counter_at source destination family) (first_spot (breaks wanted conns passes)) ≡ None → is_spot spot ≡ true → has_spot conns spot ≡ true → complies wanted (passes spot) ≡ true
+    option_map (counterexample_at source destination family) (first_spot (breaks wanted conns passes)) ≡ None → is_spot spot ≡ true → has_spot conns spot ≡ true → complies wanted (passes spot) ≡ true
 none_in lists wanted conns source destination family passes spot none is has =
-    not_broken wanted conns passes spot (no_spot (breaks wanted conns passes) spot (none_map (counter_at source destination family) (first_spot (breaks wanted conns passes)) none) is) has
+    not_broken wanted conns passes spot (no_spot (breaks wanted conns passes) spot (none_map (counterexample_at source destination family) (first_spot (breaks wanted conns passes)) none) is) has
 
 all_in : (wanted : Wanted) (conns : Conns) (source destination : PlaceEnd) (family : Family) (passes : PortSpot → Bool) →
     ((spot : PortSpot) → is_spot spot ≡ true → has_spot conns spot ≡ true → complies wanted (passes spot) ≡ true) →
-    option_map (counter_at source destination family) (first_spot (breaks wanted conns passes)) ≡ None
+    option_map (counterexample_at source destination family) (first_spot (breaks wanted conns passes)) ≡ None
 all_in wanted conns source destination family passes does =
-    ap (option_map (counter_at source destination family)) (no_spots (breaks wanted conns passes) (λ spot is. is_whole wanted conns passes spot (does spot is)))
+    ap (option_map (counterexample_at source destination family)) (no_spots (breaks wanted conns passes) (λ spot is. is_whole wanted conns passes spot (does spot is)))
 
 -- of an address
 to_address : (lists : EstateLists) (wanted : Wanted) (conns : Conns) (a : ℕ) (address : Address) →
-    counter_between lists wanted conns (Work a) (At address) ≡ option_map (counter_at (Work a) (At address) (family_of address))
+    counterexample_between lists wanted conns (Work a) (At address) ≡ option_map (counterexample_at (Work a) (At address) (family_of address))
     (first_spot (breaks wanted conns (address_allows lists (folding_of lists) a Egress (family_of address) (number_of_address address))))
-unfolding counter_between
-to_address lists wanted conns a address = first_of-one (counter_in lists wanted conns (Work a) (At address)) (family_of address)
+unfolding counterexample_between
+to_address lists wanted conns a address = first_of-one (counterexample_in lists wanted conns (Work a) (At address)) (family_of address)
 
 from_address : (lists : EstateLists) (wanted : Wanted) (conns : Conns) (b : ℕ) (address : Address) →
-    counter_between lists wanted conns (At address) (Work b) ≡ option_map (counter_at (At address) (Work b) (family_of address))
+    counterexample_between lists wanted conns (At address) (Work b) ≡ option_map (counterexample_at (At address) (Work b) (family_of address))
     (first_spot (breaks wanted conns (address_allows lists (folding_of lists) b Ingress (family_of address) (number_of_address address))))
-unfolding counter_between
-from_address lists wanted conns b address = first_of-one (counter_in lists wanted conns (At address) (Work b)) (family_of address)
+unfolding counterexample_between
+from_address lists wanted conns b address = first_of-one (counterexample_in lists wanted conns (At address) (Work b)) (family_of address)
 
 -- ---- where nothing is found the statement holds
 
 record AreNone (lists : EstateLists) (question : Question) : Type 0 where
-  works : (a b : ℕ) → Contains question.source.works a → Contains question.destination.works b → counter_between lists question.wanted question.conns (Work a) (Work b) ≡ None
+  works : (a b : ℕ) → Contains question.source.works a → Contains question.destination.works b → counterexample_between lists question.wanted question.conns (Work a) (Work b) ≡ None
   egress : (a : ℕ) (address : Address) → Contains question.source.works a → HasAddress question.destination address →
-      counter_between lists question.wanted question.conns (Work a) (At address) ≡ None
+      counterexample_between lists question.wanted question.conns (Work a) (At address) ≡ None
   ingress : (address : Address) (b : ℕ) → HasAddress question.source address → Contains question.destination.works b →
-      counter_between lists question.wanted question.conns (At address) (Work b) ≡ None
+      counterexample_between lists question.wanted question.conns (At address) (Work b) ≡ None
 
-are_none : (lists : EstateLists) (question : Question) → counter_of lists question ≡ None → AreNone lists question
+are_none : (lists : EstateLists) (question : Question) → counterexample_of lists question ≡ None → AreNone lists question
 are_none lists question none =
-    let gives = counter_between lists question.wanted question.conns in
+    let gives = counterexample_between lists question.wanted question.conns in
     let all = none_both _ _ (sym (of-question lists question) ∙ none) in
     let from = λ (a : ℕ) (among : Contains question.source.works a).
     none_both (first_of (λ (work : ℕ). gives (Work a) (Work work)) question.destination.works) (first_of (λ (address : Address). gives (Work a) (At address)) (addresses_of question.destination.block))
     (sym (from-work lists question.wanted question.conns question.destination a) ∙ none_at
-    (λ (source : ℕ). counter_from lists question.wanted question.conns question.destination (Work source)) question.source.works a all.0 among) in
+    (λ (source : ℕ). counterexample_from lists question.wanted question.conns question.destination (Work source)) question.source.works a all.0 among) in
     record {
       works = λ a b in_source in_destination. none_at (λ (work : ℕ). gives (Work a) (Work work)) question.destination.works b (from a in_source).0 in_destination;
       egress = λ a address in_source has. no_address question.destination.block (λ (other : Address). gives (Work a) (At other)) address (from a in_source).1 has.0 has.1;
@@ -77,7 +77,7 @@ are_none lists question none =
           (no_address question.source.block (λ (other : Address). first_of (λ (work : ℕ). gives (At other) (Work work)) question.destination.works) address all.1 has.0 has.1) in_destination;
     }
 
-pub holds : (lists : EstateLists) (question : Question) → IsLawful lists → counter_of lists question ≡ None → Holds lists question
+pub holds : (lists : EstateLists) (question : Question) → IsLawful lists → counterexample_of lists question ≡ None → Holds lists question
 holds lists question lawful none =
     let are = are_none lists question none in
     let folding = folding_of lists in
@@ -89,7 +89,7 @@ holds lists question lawful none =
           let families = between-apart lists question.wanted question.conns a b (families_of lists.pods) apart refl ∙ are.works a b in_source.1 in_destination.1 in
           ap (complies question.wanted) (between_pods-pair_allows lists p q family spot lawful in_source.0 in_destination.0 differ)
           ∙ none_in lists question.wanted question.conns (Work a) (Work b) family (pair_allows lists folding a b family) spot
-          (none_at (counter_in lists question.wanted question.conns (Work a) (Work b)) (families_of lists.pods) family families listed) speaks.0 speaks.1;
+          (none_at (counterexample_in lists question.wanted question.conns (Work a) (Work b)) (families_of lists.pods) family families listed) speaks.0 speaks.1;
       to_addresses = λ p address spot in_source has speaks.
           let a = number_of lists p in
           ap (complies question.wanted) (with_address-address_allows lists p Egress (family_of address) (number_of_address address) spot lawful in_source.0)
@@ -147,10 +147,10 @@ stand_apart lists a b a_in b_in apart same =
 -- ---- where the statement holds nothing is found
 
 pub found_none : (lists : EstateLists) (question : Question) → IsLawful lists → All (IsWorkload lists) question.source.works → All (IsWorkload lists) question.destination.works →
-    Holds lists question → counter_of lists question ≡ None
+    Holds lists question → counterexample_of lists question ≡ None
 found_none lists question lawful sources destinations is =
     let folding = folding_of lists in
-    let gives = counter_between lists question.wanted question.conns in
+    let gives = counterexample_between lists question.wanted question.conns in
     let near = λ (a : ℕ) (a_in : IsWorkload lists a). source-member folding a (members-some lists folding a refl a_in) in
     let near_in = λ (a : ℕ) (a_in : IsWorkload lists a). members-within lists folding a (source_pod folding a) refl a_in (near a a_in) in
     let near_of = λ (a : ℕ) (a_in : IsWorkload lists a). member-number lists a (source_pod folding a) (near_in a a_in) (near a a_in) in
@@ -163,7 +163,7 @@ found_none lists question lawful sources destinations is =
           let far_in = members-within lists folding b (destination_pod folding a b) refl b_in far in
           let far_of = member-number lists b (destination_pod folding a b) far_in far in
           sym (between-apart lists question.wanted question.conns a b (families_of lists.pods) apart refl)
-          ∙ none_all (counter_in lists question.wanted question.conns (Work a) (Work b)) (families_of lists.pods) (λ family listed.
+          ∙ none_all (counterexample_in lists question.wanted question.conns (Work a) (Work b)) (families_of lists.pods) (λ family listed.
           all_in question.wanted question.conns (Work a) (Work b) family (pair_allows lists folding a b family) (λ spot is_one has.
           ap (complies question.wanted) (pair_allows-between lists folding a b family spot apart)
           ∙ is.pods (source_pod folding a) (destination_pod folding a b) family spot (near_in a a_in, subst (Contains question.source.works) (sym (near_of a a_in)) in_source)
@@ -185,7 +185,7 @@ found_none lists question lawful sources destinations is =
     ∙ is.from_addresses address (source_pod folding b) spot has (near_in b b_in, subst (Contains question.destination.works) (sym (near_of b b_in)) in_destination) (is_one, has_it)) in
     of-question lists question
     ∙ both_none _ _
-    (none_all (λ (source : ℕ). counter_from lists question.wanted question.conns question.destination (Work source)) question.source.works (λ a in_source.
+    (none_all (λ (source : ℕ). counterexample_from lists question.wanted question.conns question.destination (Work source)) question.source.works (λ a in_source.
     from-work lists question.wanted question.conns question.destination a
     ∙ both_none _ _
     (none_all (λ (work : ℕ). gives (Work a) (Work work)) question.destination.works

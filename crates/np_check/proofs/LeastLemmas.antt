@@ -6,7 +6,7 @@ use Rattle.np_check.proofs.FirstLemmas.{IsFound, found-is}
 use Rattle.np_check.proofs.NoneLemmas.{no_port, no_spot, none_at, none_map}
 use Rattle.np_check.proofs.OrderLemmas.{between_sorted, found_of, in_places, places_are, places_sorted, proto_in, protos_sorted}
 use Rattle.np_check.proofs.SortedLemmas.{strict_ends, strict_families, strict_protos}
-use Rattle.np_check.specs.Counters.{allows_between, breaks, counter_at, counter_between, counter_from, counter_in, counter_of, families_between, places_of}
+use Rattle.np_check.specs.Counterexamples.{allows_between, breaks, counterexample_at, counterexample_between, counterexample_from, counterexample_in, counterexample_of, families_between, places_of}
 use Rattle.np_check.specs.FirstPacket.{IsBroken, IsFirstBroken}
 use Rattle.np_check.specs.Firsts.{first_of_ports, first_of_proto, first_spot}
 use Rattle.np_check.specs.Numbers.{is_ascending}
@@ -22,30 +22,30 @@ spot_none : (passes : PortSpot → Bool) (spot : PortSpot) → first_spot passes
 spot_none passes spot none is does = at_odds (passes spot) does (no_spot passes spot none is)
 
 in_none : (lists : EstateLists) (question : Question) (packet : Counterexample) → IsBroken lists question packet →
-    counter_in lists question.wanted question.conns packet.source packet.destination packet.family ≡ None → ⊥
+    counterexample_in lists question.wanted question.conns packet.source packet.destination packet.family ≡ None → ⊥
 in_none lists question packet is none =
     spot_none (breaks question.wanted question.conns (allows_between lists packet.source packet.destination packet.family)) packet.spot
-    (none_map (counter_at packet.source packet.destination packet.family)
+    (none_map (counterexample_at packet.source packet.destination packet.family)
     (first_spot (breaks question.wanted question.conns (allows_between lists packet.source packet.destination packet.family))) none) is.spot is.broken
 
 between_none : (lists : EstateLists) (question : Question) (packet : Counterexample) → IsBroken lists question packet →
-    counter_between lists question.wanted question.conns packet.source packet.destination ≡ None → ⊥
-unfolding counter_between
+    counterexample_between lists question.wanted question.conns packet.source packet.destination ≡ None → ⊥
+unfolding counterexample_between
 between_none lists question packet is none =
-    in_none lists question packet is (none_at (counter_in lists question.wanted question.conns packet.source packet.destination)
+    in_none lists question packet is (none_at (counterexample_in lists question.wanted question.conns packet.source packet.destination)
     (families_between lists packet.source packet.destination) packet.family none is.listed)
 
 from_none : (lists : EstateLists) (question : Question) (packet : Counterexample) → IsBroken lists question packet →
-    counter_from lists question.wanted question.conns question.destination packet.source ≡ None → ⊥
-unfolding counter_from
+    counterexample_from lists question.wanted question.conns question.destination packet.source ≡ None → ⊥
+unfolding counterexample_from
 from_none lists question packet is none =
-    between_none lists question packet is (none_at (counter_between lists question.wanted question.conns packet.source) (places_of question.destination) packet.destination none
+    between_none lists question packet is (none_at (counterexample_between lists question.wanted question.conns packet.source) (places_of question.destination) packet.destination none
     (in_places question.destination packet.destination is.to))
 
-pub nothing_broken : (lists : EstateLists) (question : Question) (packet : Counterexample) → counter_of lists question ≡ None → IsBroken lists question packet → ⊥
-unfolding counter_of
+pub nothing_broken : (lists : EstateLists) (question : Question) (packet : Counterexample) → counterexample_of lists question ≡ None → IsBroken lists question packet → ⊥
+unfolding counterexample_of
 nothing_broken lists question packet none is =
-    from_none lists question packet is (none_at (counter_from lists question.wanted question.conns question.destination) (places_of question.source) packet.source none
+    from_none lists question packet is (none_at (counterexample_from lists question.wanted question.conns question.destination) (places_of question.source) packet.source none
     (in_places question.source packet.source is.from))
 
 -- ---- the first protocol and port
@@ -114,20 +114,20 @@ moved lists question other source destination family same same' same'' does =
     ∙ does
 
 pub first_broken : (lists : EstateLists) (question : Question) (first : Counterexample) → is_ascending question.source.works ≡ true → is_ascending question.destination.works ≡ true →
-    counter_of lists question ≡ Some first → IsFirstBroken lists question first
-unfolding counter_of counter_from counter_between
+    counterexample_of lists question ≡ Some first → IsFirstBroken lists question first
+unfolding counterexample_of counterexample_from counterexample_between
 first_broken lists question first sources destinations found =
     let wanted = question.wanted in
     let conns = question.conns in
-    let s = found_of comes_before (counter_from lists wanted conns question.destination) (places_of question.source) first strict_ends (places_sorted question.source sources) found in
-    let d = found_of comes_before (counter_between lists wanted conns s.item) (places_of question.destination) first strict_ends (places_sorted question.destination destinations) s.found in
-    let f = found_of family_before (counter_in lists wanted conns s.item d.item) (families_between lists s.item d.item) first strict_families (between_sorted lists s.item d.item) d.found in
-    let (spot, spot_found, is) = some_map (counter_at s.item d.item f.item) (first_spot (breaks wanted conns (allows_between lists s.item d.item f.item))) first f.found in
+    let s = found_of comes_before (counterexample_from lists wanted conns question.destination) (places_of question.source) first strict_ends (places_sorted question.source sources) found in
+    let d = found_of comes_before (counterexample_between lists wanted conns s.item) (places_of question.destination) first strict_ends (places_sorted question.destination destinations) s.found in
+    let f = found_of family_before (counterexample_in lists wanted conns s.item d.item) (families_between lists s.item d.item) first strict_families (between_sorted lists s.item d.item) d.found in
+    let (spot, spot_found, is) = some_map (counterexample_at s.item d.item f.item) (first_spot (breaks wanted conns (allows_between lists s.item d.item f.item))) first f.found in
     let p = spot_first (breaks wanted conns (allows_between lists s.item d.item f.item)) spot spot_found in
     let source_is : first.source ≡ s.item = ap (λ (c : Counterexample). c.source) is in
     let destination_is : first.destination ≡ d.item = ap (λ (c : Counterexample). c.destination) is in
     let family_is : first.family ≡ f.item = ap (λ (c : Counterexample). c.family) is in
-    let own : IsBroken lists question (counter_at s.item d.item f.item spot) = record {
+    let own : IsBroken lists question (counterexample_at s.item d.item f.item spot) = record {
       from = places_are question.source s.item s.one;
       to = places_are question.destination d.item d.one;
       listed = f.one;
@@ -139,13 +139,13 @@ first_broken lists question first sources destinations found =
       by_source = λ other broken. not_before comes_before other.source s.item
           (λ earlier. from_none lists question other broken (s.none other.source (in_places question.source other.source broken.from) earlier));
       by_destination = λ other broken same. not_before comes_before other.destination d.item (λ earlier.
-          between_none lists question other broken (ap (λ (end : PlaceEnd). counter_between lists wanted conns end other.destination) same ∙ d.none other.destination
+          between_none lists question other broken (ap (λ (end : PlaceEnd). counterexample_between lists wanted conns end other.destination) same ∙ d.none other.destination
           (in_places question.destination other.destination broken.to) earlier));
       by_family = λ other broken same same'. not_before family_before other.family f.item (λ earlier.
           let listed = subst (λ (end : PlaceEnd). Contains (families_between lists s.item end) other.family) same'
           (subst (λ (end : PlaceEnd). Contains (families_between lists end other.destination) other.family) same broken.listed) in
           in_none lists question other broken
-          (ap (λ (end : PlaceEnd). counter_in lists wanted conns end other.destination other.family) same ∙ ap (λ (end : PlaceEnd). counter_in lists wanted conns s.item end other.family) same'
+          (ap (λ (end : PlaceEnd). counterexample_in lists wanted conns end other.destination other.family) same ∙ ap (λ (end : PlaceEnd). counterexample_in lists wanted conns s.item end other.family) same'
           ∙ f.none other.family listed earlier));
       by_proto = λ other broken same same' same''. p.by_proto other.spot broken.spot (moved lists question other s.item d.item f.item same same' same'' broken.broken);
       by_port = λ other broken same same' same'' proto. p.by_port other.spot broken.spot (moved lists question other s.item d.item f.item same same' same'' broken.broken) proto;

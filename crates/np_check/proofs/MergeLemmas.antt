@@ -9,7 +9,7 @@ use Rattle.np_addr.specs.Blocks.{AddressRanges, set_has}
 use Rattle.np_check.specs.Types.{Address, At, Counterexample, Four, PlaceEnd, Six}
 use Rattle.np_check.proofs.FirstLemmas.{from_either}
 use Rattle.np_check.proofs.SortedLemmas.{SortedBy, address_back, address_itself, sorted_append}
-use Rattle.np_check.specs.Counters.{addresses_in, addresses_of}
+use Rattle.np_check.specs.Counterexamples.{addresses_in, addresses_of}
 use Rattle.np_check.specs.Firsts.{first_of}
 use Rattle.np_check.specs.Order.{address_before, comes_before}
 use Rattle.np_check.specs.steps.Broken.{earlier}
@@ -57,44 +57,44 @@ addresses-ascend set =
 
 -- what is found of an address is from it
 abbrev pub IsFrom : (Address → Option Counterexample) → Type 0
-IsFrom gives = (address : Address) (counter : Counterexample) → gives address ≡ Some counter → counter.source ≡ At address
+IsFrom gives = (address : Address) (counterexample : Counterexample) → gives address ≡ Some counterexample → counterexample.source ≡ At address
 
-from_behind : (gives : Address → Option Counterexample) (x : Address) (xs : List Address) (counter : Counterexample) → IsFrom gives → AllByRecursion (IsBefore x) xs →
-    first_of gives xs ≡ Some counter → (y : Address) × IsBefore x y × (counter.source ≡ At y)
-from_behind gives x [] counter from all found = absurd (none-some counter found)
-from_behind gives x (y ∷ ys) counter from all found =
-    elim (from_either (gives y) (first_of gives ys) counter found) [
-      | inl here ↦ (y, all.0, from y counter here)
-      | inr later ↦ from_behind gives x ys counter from all.1 later
+from_behind : (gives : Address → Option Counterexample) (x : Address) (xs : List Address) (counterexample : Counterexample) → IsFrom gives → AllByRecursion (IsBefore x) xs →
+    first_of gives xs ≡ Some counterexample → (y : Address) × IsBefore x y × (counterexample.source ≡ At y)
+from_behind gives x [] counterexample from all found = absurd (none-some counterexample found)
+from_behind gives x (y ∷ ys) counterexample from all found =
+    elim (from_either (gives y) (first_of gives ys) counterexample found) [
+      | inl here ↦ (y, all.0, from y counterexample here)
+      | inr later ↦ from_behind gives x ys counterexample from all.1 later
     ]
 
 -- the one that is kept is from x, and the other one from no earlier address
-keep_first : (x : Address) (counter : Counterexample) (other : Option Counterexample) → counter.source ≡ At x →
-    ((found : Counterexample) → other ≡ Some found → comes_before found.source (At x) ≡ false) → earlier (Some counter) other ≡ Some counter
-keep_first x counter None source later = refl
-keep_first x counter (Some found) source later =
-    let no : comes_before found.source counter.source ≡ false = ap (λ (end : PlaceEnd). comes_before found.source end) source ∙ later found refl in
+keep_first : (x : Address) (counterexample : Counterexample) (other : Option Counterexample) → counterexample.source ≡ At x →
+    ((found : Counterexample) → other ≡ Some found → comes_before found.source (At x) ≡ false) → earlier (Some counterexample) other ≡ Some counterexample
+keep_first x counterexample None source later = refl
+keep_first x counterexample (Some found) source later =
+    let no : comes_before found.source counterexample.source ≡ false = ap (λ (end : PlaceEnd). comes_before found.source end) source ∙ later found refl in
     rw no refl
 
-take_second : (x : Address) (counter : Counterexample) (first : Option Counterexample) → counter.source ≡ At x →
-    ((kept : Counterexample) → first ≡ Some kept → comes_before (At x) kept.source ≡ true) → earlier first (Some counter) ≡ Some counter
-take_second x counter None source later = refl
-take_second x counter (Some kept) source later =
-    let does : comes_before counter.source kept.source ≡ true = ap (λ (end : PlaceEnd). comes_before end kept.source) source ∙ later kept refl in
+take_second : (x : Address) (counterexample : Counterexample) (first : Option Counterexample) → counterexample.source ≡ At x →
+    ((kept : Counterexample) → first ≡ Some kept → comes_before (At x) kept.source ≡ true) → earlier first (Some counterexample) ≡ Some counterexample
+take_second x counterexample None source later = refl
+take_second x counterexample (Some kept) source later =
+    let does : comes_before counterexample.source kept.source ≡ true = ap (λ (end : PlaceEnd). comes_before end kept.source) source ∙ later kept refl in
     rw does refl
 
 merge_here : (gives gives' : Address → Option Counterexample) (x : Address) (xs : List Address) (one other : Option Counterexample) → IsFrom gives → IsFrom gives' → AllByRecursion (IsBefore x) xs →
     gives x ≡ one → gives' x ≡ other → first_of (λ a. option_or (gives a) (gives' a)) xs ≡ earlier (first_of gives xs) (first_of gives' xs) →
     option_or (option_or one other) (first_of (λ a. option_or (gives a) (gives' a)) xs) ≡ earlier (option_or one (first_of gives xs)) (option_or other (first_of gives' xs))
-merge_here gives gives' x xs (Some counter) (Some found) from from' all is is' rest =
-    sym (keep_first x counter (Some found) (from x counter is) (λ other same. ap (λ (c : Counterexample). comes_before c.source (At x)) (sym (same_Some found other same)) ∙ ap
+merge_here gives gives' x xs (Some counterexample) (Some found) from from' all is is' rest =
+    sym (keep_first x counterexample (Some found) (from x counterexample is) (λ other same. ap (λ (c : Counterexample). comes_before c.source (At x)) (sym (same_Some found other same)) ∙ ap
     (λ (end : PlaceEnd). comes_before end (At x)) (from' x found is') ∙ address_itself x))
-merge_here gives gives' x xs (Some counter) None from from' all is is' rest =
-    sym (keep_first x counter (first_of gives' xs) (from x counter is) (λ found later.
+merge_here gives gives' x xs (Some counterexample) None from from' all is is' rest =
+    sym (keep_first x counterexample (first_of gives' xs) (from x counterexample is) (λ found later.
     let (y, before, source) = from_behind gives' x xs found from' all later in
     ap (λ (end : PlaceEnd). comes_before end (At x)) source ∙ address_back x y before))
-merge_here gives gives' x xs None (Some counter) from from' all is is' rest =
-    sym (take_second x counter (first_of gives xs) (from' x counter is') (λ kept later.
+merge_here gives gives' x xs None (Some counterexample) from from' all is is' rest =
+    sym (take_second x counterexample (first_of gives xs) (from' x counterexample is') (λ kept later.
     let (y, before, source) = from_behind gives x xs kept from all later in
     ap (λ (end : PlaceEnd). comes_before (At x) end) source ∙ before))
 merge_here gives gives' x xs None None from from' all is is' rest = rest

@@ -10,7 +10,7 @@ use Rattle.np_check.proofs.BrokenLemmas.{addresses_upto, upto-below, upto-each}
 use Rattle.np_check.proofs.FirstLemmas.{find-none, first_of-append, none-found, none_both, none_each}
 use Rattle.np_check.proofs.MemberLemmas.{further_on}
 use Rattle.np_addr.proofs.SameLists.{Contains-first}
-use Rattle.np_check.specs.Counters.{addresses_in, addresses_of, breaks, complies}
+use Rattle.np_check.specs.Counterexamples.{addresses_in, addresses_of, breaks, complies}
 use Rattle.np_check.specs.Firsts.{first_of, first_of_ports, first_of_proto, first_spot}
 use Rattle.np_conns.specs.Conns.{Conns, has_spot, is_spot}
 

@@ -14,7 +14,7 @@ use Rattle.np_addr.proofs.SameLists.{Contains-first}
 use Rattle.np_check.proofs.MemberLemmas.{first_or_later, from_filter, from_map, from_range, further_on, in_filter, in_map, in_range}
 use Rattle.np_check.proofs.MergeLemmas.{addresses-ascend}
 use Rattle.np_check.proofs.SortedLemmas.{IsStrict, SortedBy, each_map, sorted_append, sorted_map, works_sorted}
-use Rattle.np_check.specs.Counters.{addresses_in, addresses_of, families_between, places_of}
+use Rattle.np_check.specs.Counterexamples.{addresses_in, addresses_of, families_between, places_of}
 use Rattle.np_check.specs.FirstPacket.{IsEndOf}
 use Rattle.np_check.specs.Firsts.{first_of}
 use Rattle.np_check.specs.Numbers.{is_ascending}

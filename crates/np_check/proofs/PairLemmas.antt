@@ -8,7 +8,7 @@ use Rattle.np_check.specs.Types.{Allow, At, Deny, Ends, EstateLists, Family, Por
 use Rattle.np_check.proofs.FirstLemmas.{first_of-append, first_of-map, first_of-none}
 use Rattle.np_check.proofs.NoneLemmas.{no_spots, none_all, none_at, none_map}
 use Rattle.np_check.proofs.SpotLemmas.{breaks-same}
-use Rattle.np_check.specs.Counters.{addresses_of, breaks, complies, counter_at, counter_between, counter_from, counter_in, families_between}
+use Rattle.np_check.specs.Counterexamples.{addresses_of, breaks, complies, counterexample_at, counterexample_between, counterexample_from, counterexample_in, families_between}
 use Rattle.np_check.specs.Firsts.{first_of, first_spot}
 use Rattle.np_check.specs.steps.Pairs.{AreSettled, has_pair, is_deny, kind_of}
 use Rattle.np_conns.specs.Conns.{Conns, has_spot}
@@ -57,43 +57,43 @@ by_set lists wanted conns passes a b family is =
 
 pub in_family : (lists : EstateLists) (wanted : Wanted) (conns passes : Conns) (a b : ℕ) (family : Family) (found : Option PortSpot) →
     passes ≡ conns_of (pair_allows lists (folding_of lists) a b family) → found ≡ first_spot (breaks wanted conns (has_spot passes)) →
-    option_map (counter_at (Work a) (Work b) family) found ≡ counter_in lists wanted conns (Work a) (Work b) family
+    option_map (counterexample_at (Work a) (Work b) family) found ≡ counterexample_in lists wanted conns (Work a) (Work b) family
 in_family lists wanted conns passes a b family found is found_is =
-    ap (option_map (counter_at (Work a) (Work b) family)) (found_is ∙ by_set lists wanted conns passes a b family is)
+    ap (option_map (counterexample_at (Work a) (Work b) family)) (found_is ∙ by_set lists wanted conns passes a b family is)
 
 -- ---- between two workloads
 
-pub between-alone : (lists : EstateLists) (wanted : Wanted) (conns : Conns) (a b : ℕ) → is_alone (folding_of lists) a b ≡ true → None ≡ counter_between lists wanted conns (Work a) (Work b)
-unfolding counter_between
+pub between-alone : (lists : EstateLists) (wanted : Wanted) (conns : Conns) (a b : ℕ) → is_alone (folding_of lists) a b ≡ true → None ≡ counterexample_between lists wanted conns (Work a) (Work b)
+unfolding counterexample_between
 between-alone lists wanted conns a b alone = rw alone refl
 
 pub between-apart : (lists : EstateLists) (wanted : Wanted) (conns : Conns) (a b : ℕ) (families : List Family) → is_alone (folding_of lists) a b ≡ false → families ≡ families_of lists.pods →
-    first_of (counter_in lists wanted conns (Work a) (Work b)) families ≡ counter_between lists wanted conns (Work a) (Work b)
-unfolding counter_between
+    first_of (counterexample_in lists wanted conns (Work a) (Work b)) families ≡ counterexample_between lists wanted conns (Work a) (Work b)
+unfolding counterexample_between
 between-apart lists wanted conns a b families apart are = rw (apart, are) refl
 
 -- ---- kinds
 
 none_in-kinds : (lists : EstateLists) (wanted : Wanted) (conns : Conns) (a b a' b' : ℕ) (family : Family) →
     ((spot : PortSpot) → pair_allows lists (folding_of lists) a b family spot ≡ pair_allows lists (folding_of lists) a' b' family spot) →
-    counter_in lists wanted conns (Work a) (Work b) family ≡ None → counter_in lists wanted conns (Work a') (Work b') family ≡ None
+    counterexample_in lists wanted conns (Work a) (Work b) family ≡ None → counterexample_in lists wanted conns (Work a') (Work b') family ≡ None
 none_in-kinds lists wanted conns a b a' b' family same none =
     let spots = breaks-same wanted conns (pair_allows lists (folding_of lists) a b family) (pair_allows lists (folding_of lists) a' b' family) (λ spot is. same spot) in
-    ap (option_map (counter_at (Work a') (Work b') family))
-    (none_map (counter_at (Work a) (Work b) family) (first_spot (breaks wanted conns (pair_allows lists (folding_of lists) a' b' family)))
-    (ap (option_map (counter_at (Work a) (Work b) family)) (sym spots) ∙ none))
+    ap (option_map (counterexample_at (Work a') (Work b') family))
+    (none_map (counterexample_at (Work a) (Work b) family) (first_spot (breaks wanted conns (pair_allows lists (folding_of lists) a' b' family)))
+    (ap (option_map (counterexample_at (Work a) (Work b) family)) (sym spots) ∙ none))
 
 none_all-kinds : (lists : EstateLists) (wanted : Wanted) (conns : Conns) (a b a' b' : ℕ) (families : List Family) →
     ((family : Family) (spot : PortSpot) → pair_allows lists (folding_of lists) a b family spot ≡ pair_allows lists (folding_of lists) a' b' family spot) →
-    first_of (counter_in lists wanted conns (Work a) (Work b)) families ≡ None → first_of (counter_in lists wanted conns (Work a') (Work b')) families ≡ None
+    first_of (counterexample_in lists wanted conns (Work a) (Work b)) families ≡ None → first_of (counterexample_in lists wanted conns (Work a') (Work b')) families ≡ None
 none_all-kinds lists wanted conns a b a' b' families same none =
-    none_all (counter_in lists wanted conns (Work a') (Work b')) families
-    (λ family has. none_in-kinds lists wanted conns a b a' b' family (same family) (none_at (counter_in lists wanted conns (Work a) (Work b)) families family none has))
+    none_all (counterexample_in lists wanted conns (Work a') (Work b')) families
+    (λ family has. none_in-kinds lists wanted conns a b a' b' family (same family) (none_at (counterexample_in lists wanted conns (Work a) (Work b)) families family none has))
 
 -- where nothing breaks the statement between two workloads, nothing does between two of their kinds
 between-kinds : (lists : EstateLists) (wanted : Wanted) (conns : Conns) (a b a' b' : ℕ) → IsLawful lists → IsWorkload lists a → IsWorkload lists b → IsWorkload lists a' → IsWorkload lists b' →
-    kind_of lists a ≡ kind_of lists a' → kind_of lists b ≡ kind_of lists b' → is_alone (folding_of lists) a b ≡ false → counter_between lists wanted conns (Work a) (Work b) ≡ None →
-    counter_between lists wanted conns (Work a') (Work b') ≡ None
+    kind_of lists a ≡ kind_of lists a' → kind_of lists b ≡ kind_of lists b' → is_alone (folding_of lists) a b ≡ false → counterexample_between lists wanted conns (Work a) (Work b) ≡ None →
+    counterexample_between lists wanted conns (Work a') (Work b') ≡ None
 between-kinds lists wanted conns a b a' b' lawful a_in b_in a'_in b'_in sources destinations apart none =
     let kind = λ (work : ℕ) (within : IsWorkload lists work). kinds-by lists work within in
     elim (cases_Bool (is_alone (folding_of lists) a' b')) [
@@ -108,7 +108,7 @@ between-kinds lists wanted conns a b a' b' lawful a_in b_in a'_in b'_in sources 
 
 -- so the pair of their kinds is settled
 pub settled-more : (lists : EstateLists) (wanted : Wanted) (conns : Conns) (pairs more : List (ℕ × ℕ)) (a b : ℕ) → IsLawful lists → IsWorkload lists a → IsWorkload lists b → (a ≡ b → ⊥) →
-    counter_between lists wanted conns (Work a) (Work b) ≡ None → ((i j : ℕ) → has_pair more i j ≡ (if (kind_of lists a == i) && (kind_of lists b == j) then true else has_pair pairs i j)) →
+    counterexample_between lists wanted conns (Work a) (Work b) ≡ None → ((i j : ℕ) → has_pair more i j ≡ (if (kind_of lists a == i) && (kind_of lists b == j) then true else has_pair pairs i j)) →
     AreSettled lists wanted conns pairs → AreSettled lists wanted conns more
 settled-more lists wanted conns pairs more a b lawful a_in b_in differ none has settled a' b' a'_in b'_in yes_there =
     let apart : is_alone (folding_of lists) a b ≡ false = ap (λ same. same && length (members_of (folding_of lists) a) == 1) (ne_eqb a b differ) in
@@ -123,15 +123,15 @@ settled-more lists wanted conns pairs more a b lawful a_in b_in differ none has 
 -- ---- from a workload
 
 pub from-work : (lists : EstateLists) (wanted : Wanted) (conns : Conns) (ends : Ends) (source : ℕ) →
-    counter_from lists wanted conns ends (Work source) ≡ option_or (first_of (λ destination. counter_between lists wanted conns (Work source) (Work destination)) ends.works)
-    (first_of (λ address. counter_between lists wanted conns (Work source) (At address)) (addresses_of ends.block))
-unfolding counter_from
+    counterexample_from lists wanted conns ends (Work source) ≡ option_or (first_of (λ destination. counterexample_between lists wanted conns (Work source) (Work destination)) ends.works)
+    (first_of (λ address. counterexample_between lists wanted conns (Work source) (At address)) (addresses_of ends.block))
+unfolding counterexample_from
 from-work lists wanted conns ends source =
-    first_of-append (counter_between lists wanted conns (Work source)) (map Work ends.works) (map At (addresses_of ends.block))
-    ∙ ap (λ first. option_or first (first_of (counter_between lists wanted conns (Work source)) (map At (addresses_of ends.block))))
-    (first_of-map (counter_between lists wanted conns (Work source)) Work ends.works)
-    ∙ ap (λ rest. option_or (first_of (λ destination. counter_between lists wanted conns (Work source) (Work destination)) ends.works) rest)
-    (first_of-map (counter_between lists wanted conns (Work source)) At (addresses_of ends.block))
+    first_of-append (counterexample_between lists wanted conns (Work source)) (map Work ends.works) (map At (addresses_of ends.block))
+    ∙ ap (λ first. option_or first (first_of (counterexample_between lists wanted conns (Work source)) (map At (addresses_of ends.block))))
+    (first_of-map (counterexample_between lists wanted conns (Work source)) Work ends.works)
+    ∙ ap (λ rest. option_or (first_of (λ destination. counterexample_between lists wanted conns (Work source) (Work destination)) ends.works) rest)
+    (first_of-map (counterexample_between lists wanted conns (Work source)) At (addresses_of ends.block))
 
 -- ---- workloads between which nothing passes
 
@@ -141,10 +141,10 @@ not_denied false allowed none = refl
 
 -- no packet between them breaks a statement that denies
 pub none_denied : (lists : EstateLists) (wanted : Wanted) (conns : Conns) (a b : ℕ) → is_deny wanted ≡ true →
-    ((family : Family) (spot : PortSpot) → pair_allows lists (folding_of lists) a b family spot ≡ false) → None ≡ counter_between lists wanted conns (Work a) (Work b)
-unfolding counter_between
+    ((family : Family) (spot : PortSpot) → pair_allows lists (folding_of lists) a b family spot ≡ false) → None ≡ counterexample_between lists wanted conns (Work a) (Work b)
+unfolding counterexample_between
 none_denied lists Allow conns a b denies silent = absurd (cc)
 none_denied lists Deny conns a b denies silent =
-    sym (first_of-none (counter_in lists Deny conns (Work a) (Work b)) (families_between lists (Work a) (Work b)) (λ family.
-    ap (option_map (counter_at (Work a) (Work b) family)) (no_spots (breaks Deny conns (pair_allows lists (folding_of lists) a b family))
+    sym (first_of-none (counterexample_in lists Deny conns (Work a) (Work b)) (families_between lists (Work a) (Work b)) (λ family.
+    ap (option_map (counterexample_at (Work a) (Work b) family)) (no_spots (breaks Deny conns (pair_allows lists (folding_of lists) a b family))
     (λ spot is. not_denied (has_spot conns spot) _ (silent family spot)))))

@@ -8,7 +8,7 @@ use Rattle.np_base.proofs.Ranges.{holds-before, is_within-inside}
 use Rattle.np_base.specs.Ranges.{IsAscending, holds}
 use Rattle.np_check.specs.Types.{PortSpot, Proto, Range, Sctp, Tcp, Udp, Wanted}
 use Rattle.np_check.proofs.FirstLemmas.{find-at, find-none, find-same, first_of-same}
-use Rattle.np_check.specs.Counters.{breaks, complies}
+use Rattle.np_check.specs.Counterexamples.{breaks, complies}
 use Rattle.np_check.specs.Firsts.{first_of_ports, first_of_proto, first_spot}
 use Rattle.np_conns.specs.Conns.{AscendsInPorts, Conns, has_spot, is_spot, ranges_of}
 

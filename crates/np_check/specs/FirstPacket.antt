@@ -1,6 +1,6 @@
 -- The first packet that breaks a statement, by what it is.
 use Rattle.std.specs.Prelude.{◌≡◌, ◌≤◌, true, false, Contains}
-use Rattle.np_check.specs.Counters.{allows_between, breaks, families_between}
+use Rattle.np_check.specs.Counterexamples.{allows_between, breaks, families_between}
 use Rattle.np_check.specs.Holding.{HasAddress}
 use Rattle.np_check.specs.Order.{comes_before, family_before, proto_before}
 use Rattle.np_check.specs.Types.{At, Counterexample, Ends, EstateLists, PlaceEnd, Question, Work}

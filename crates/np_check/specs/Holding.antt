@@ -3,7 +3,7 @@ use Rattle.std.specs.Prelude.{◌≡◌, ◌≢◌, ◌<◌, ℕ, true, Contains
 use Rattle.np_addr.specs.Addresses.{IsAddress, family_of}
 use Rattle.np_addr.specs.Blocks.{set_has}
 use Rattle.np_check.specs.Types.{Address, Egress, Ends, EstateLists, Family, Ingress, PortSpot, Question}
-use Rattle.np_check.specs.Counters.{complies, number_of_address}
+use Rattle.np_check.specs.Counterexamples.{complies, number_of_address}
 use Rattle.np_conns.specs.Conns.{has_spot, is_spot}
 use Rattle.np_model.specs.Families.{families_of}
 use Rattle.np_fold.specs.Workloads.{number_of}

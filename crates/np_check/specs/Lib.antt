@@ -1,4 +1,4 @@
-pub mod Counters
+pub mod Counterexamples
 pub mod FirstPacket
 pub mod Firsts
 pub mod Holding

@@ -4,7 +4,7 @@ ghost use Rattle.np_addr.specs.Addresses.{family_of};
 ghost use Rattle.np_addr.specs.Blocks.{IsAddressSet};
 ghost use Rattle.np_addr.specs.declared.address.Family.{Family};
 ghost use Rattle.np_base.specs.Ranges.{holds, IsAscending};
-ghost use Rattle.np_check.specs.Counters.{addresses_of, counter_between};
+ghost use Rattle.np_check.specs.Counterexamples.{addresses_of, counterexample_between};
 ghost use Rattle.np_check.specs.Firsts.{first_of};
 ghost use Rattle.np_check.specs.steps.Broken as spec;
 ghost use Rattle.np_check.specs.declared.counterexample.PlaceEnd.TheVariants.{At, Work};
@@ -30,8 +30,8 @@ pub(crate) fn first_to_addresses(
     block: &AddrSet,
 ) -> Result<Option<Counterexample>, NoMemory>
     requires { IsWorkload checker.old source }
-    ensures counter { IfOk result (λ made. made ≡ first_of
-        (λ address. counter_between checker.old asked.now.wanted asked.now.conns.now (Work source) (At address))
+    ensures counterexample { IfOk result (λ made. made ≡ first_of
+        (λ address. counterexample_between checker.old asked.now.wanted asked.now.conns.now (Work source) (At address))
         (addresses_of block.now)) }
     ensures same { checker.new ≡ checker.old }
 {
@@ -59,9 +59,9 @@ pub(crate) fn first_from_addresses(
     destinations: &[u32],
 ) -> Result<Option<Counterexample>, NoMemory>
     requires { All (IsWorkload checker.old) destinations.now }
-    ensures counter { IfOk result (λ made. made ≡ first_of
+    ensures counterexample { IfOk result (λ made. made ≡ first_of
         (λ address. first_of
-        (λ destination. counter_between checker.old asked.now.wanted asked.now.conns.now (At address) (Work destination))
+        (λ destination. counterexample_between checker.old asked.now.wanted asked.now.conns.now (At address) (Work destination))
         destinations.now) (addresses_of block.now)) }
     ensures same { checker.new ≡ checker.old }
 {
@@ -85,8 +85,8 @@ fn first_from(
 ) -> Result<Option<Counterexample>, NoMemory>
     requires destination { IsWorkload checker.old destination }
     requires block { IsAddressSet block.now }
-    ensures counter { IfOk result (λ made. made ≡ first_of
-        (λ address. counter_between checker.old asked.now.wanted asked.now.conns.now (At address) (Work destination))
+    ensures counterexample { IfOk result (λ made. made ≡ first_of
+        (λ address. counterexample_between checker.old asked.now.wanted asked.now.conns.now (At address) (Work destination))
         (addresses_of block.now)) }
     ensures same { checker.new ≡ checker.old }
 {
@@ -108,19 +108,19 @@ fn earlier(first: Option<Counterexample>, found: Option<Counterexample>) -> Opti
 {
     match found {
         None => first,
-        Some(counter) => match first {
-            None => Some(counter),
-            Some(kept) => Some(earlier_of(kept, counter)),
+        Some(counterexample) => match first {
+            None => Some(counterexample),
+            Some(kept) => Some(earlier_of(kept, counterexample)),
         },
     }
 }
 
 // The same of two that are there.
-fn earlier_of(kept: Counterexample, counter: Counterexample) -> Counterexample
-    ensures { result ≡ spec.earlier_of kept counter }
+fn earlier_of(kept: Counterexample, counterexample: Counterexample) -> Counterexample
+    ensures { result ≡ spec.earlier_of kept counterexample }
 {
-    if comes_before(&counter.source, &kept.source) {
-        counter
+    if comes_before(&counterexample.source, &kept.source) {
+        counterexample
     } else {
         kept
     }

@@ -1,6 +1,6 @@
 //! The first protocol and port at which a statement is broken.
 ghost use Rattle.std.specs.Prelude.{◌≡◌, IfOk};
-ghost use Rattle.np_check.specs.Counters.{breaks};
+ghost use Rattle.np_check.specs.Counterexamples.{breaks};
 ghost use Rattle.np_check.specs.Firsts as spec;
 ghost use Rattle.np_check.specs.steps.Pairs.{is_deny};
 ghost use Rattle.np_conns.specs.Conns.{has_spot};

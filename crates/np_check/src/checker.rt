@@ -1,7 +1,7 @@
 //! Whether the statements of a cluster hold.
 ghost use Rattle.std.specs.Prelude.{◌≡◌, false, true, All, IfOk};
 ghost use Rattle.np_addr.specs.declared.address.Family.{Family as SpecFamily};
-ghost use Rattle.np_check.specs.Counters.{counter_of};
+ghost use Rattle.np_check.specs.Counterexamples.{counterexample_of};
 ghost use Rattle.np_conns.specs.declared.port_spot.PortSpot.{PortSpot};
 ghost use Rattle.np_fold.specs.Workloads.{folding_of};
 ghost use Rattle.np_table.specs.Right.{conns_of};
@@ -86,7 +86,7 @@ impl<'a> Checker<'a> {
     pub fn check(&mut self, statement: &Statement) -> Result<Option<Counterexample>, NoMemory>
         requires sources { All (IsWorkload self.old) statement.now.question.source.works }
         requires destinations { All (IsWorkload self.old) statement.now.question.destination.works }
-        ensures counter { IfOk result (λ made. made ≡ counter_of self.old statement.now.question) }
+        ensures counterexample { IfOk result (λ made. made ≡ counterexample_of self.old statement.now.question) }
         ensures same { self.new ≡ self.old }
     {
         let question = &statement.question;

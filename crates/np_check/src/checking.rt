@@ -1,6 +1,6 @@
 //! Packets from workloads.
 ghost use Rattle.std.specs.Prelude.{◌≡◌, All, IfOk};
-ghost use Rattle.np_check.specs.Counters.{counter_from};
+ghost use Rattle.np_check.specs.Counterexamples.{counterexample_from};
 ghost use Rattle.np_check.specs.Firsts.{first_of};
 ghost use Rattle.np_check.specs.steps.Pairs.{AreSettled};
 ghost use Rattle.np_check.specs.declared.counterexample.PlaceEnd.TheVariants.{Work};
@@ -24,8 +24,8 @@ pub(crate) fn first_from_works(
 ) -> Result<Option<Counterexample>, NoMemory>
     requires sources { All (IsWorkload checker.old) sources.now }
     requires destinations { All (IsWorkload checker.old) ends.now.works }
-    ensures counter { IfOk result (λ made. made ≡ first_of
-        (λ source. counter_from checker.old asked.now.wanted asked.now.conns.now ends.now (Work source)) sources.now) }
+    ensures counterexample { IfOk result (λ made. made ≡ first_of
+        (λ source. counterexample_from checker.old asked.now.wanted asked.now.conns.now ends.now (Work source)) sources.now) }
     ensures same { checker.new ≡ checker.old }
 {
     let mut settled = HashSet::new(checker.alloc());
@@ -49,8 +49,8 @@ fn first_from_work(
     requires source { IsWorkload checker.old source }
     requires destinations { All (IsWorkload checker.old) ends.now.works }
     requires settled { AreSettled checker.old asked.now.wanted asked.now.conns.now settled.old.keys }
-    ensures counter { IfOk result (λ made.
-        made ≡ counter_from checker.old asked.now.wanted asked.now.conns.now ends.now (Work source)) }
+    ensures counterexample { IfOk result (λ made.
+        made ≡ counterexample_from checker.old asked.now.wanted asked.now.conns.now ends.now (Work source)) }
     ensures same { checker.new ≡ checker.old }
     ensures settled { AreSettled checker.new asked.now.wanted asked.now.conns.now settled.new.keys }
 {

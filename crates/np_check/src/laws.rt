@@ -1,6 +1,6 @@
 //! What follows from the definitions. Each law is the contract of a call that does nothing.
 ghost use Rattle.std.specs.Prelude.{◌≡◌, ◌↔◌, None, Some, All, true};
-ghost use Rattle.np_check.specs.Counters.{counter_of};
+ghost use Rattle.np_check.specs.Counterexamples.{counterexample_of};
 ghost use Rattle.np_check.specs.FirstPacket.{IsBroken, IsFirstBroken};
 ghost use Rattle.np_check.specs.Holding.{Holds};
 ghost use Rattle.np_check.specs.Numbers.{is_ascending};
@@ -15,14 +15,14 @@ ghost use Rattle.np_kinds.specs.Between.{IsWorkload};
 pub fn nothing_is_found_where_a_statement_holds()
     ensures { (lists : EstateLists) (question : Question) → IsLawful lists →
         All (IsWorkload lists) question.source.works → All (IsWorkload lists) question.destination.works →
-        (counter_of lists question ≡ None) ↔ Holds lists question }
+        (counterexample_of lists question ≡ None) ↔ Holds lists question }
 {}
 
 /// What `check` finds breaks the statement, and no packet that does comes before it; and where it finds nothing, none does.
 pub fn the_first_packet_is_found()
     ensures first { (lists : EstateLists) (question : Question) (packet : Counterexample) →
         is_ascending question.source.works ≡ true → is_ascending question.destination.works ≡ true →
-        counter_of lists question ≡ Some packet → IsFirstBroken lists question packet }
+        counterexample_of lists question ≡ Some packet → IsFirstBroken lists question packet }
     ensures none { (lists : EstateLists) (question : Question) (packet : Counterexample) →
-        counter_of lists question ≡ None → IsBroken lists question packet → ⊥ }
+        counterexample_of lists question ≡ None → IsBroken lists question packet → ⊥ }
 {}

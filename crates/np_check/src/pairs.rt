@@ -1,6 +1,6 @@
 //! Packets between workloads.
 ghost use Rattle.std.specs.Prelude.{◌≡◌, ◌<◌, false, All, IfOk, length};
-ghost use Rattle.np_check.specs.Counters.{counter_between, counter_in};
+ghost use Rattle.np_check.specs.Counterexamples.{counterexample_between, counterexample_in};
 ghost use Rattle.np_check.specs.Firsts.{first_of};
 ghost use Rattle.np_check.specs.steps.Pairs.{AreSettled};
 ghost use Rattle.np_check.specs.declared.counterexample.PlaceEnd.TheVariants.{Work};
@@ -31,8 +31,8 @@ pub(crate) fn first_to_works(
     requires source { IsWorkload checker.old source }
     requires destinations { All (IsWorkload checker.old) destinations.now }
     requires settled { AreSettled checker.old asked.now.wanted asked.now.conns.now settled.old.keys }
-    ensures counter { IfOk result (λ made. made ≡ first_of
-        (λ destination. counter_between checker.old asked.now.wanted asked.now.conns.now (Work source) (Work destination))
+    ensures counterexample { IfOk result (λ made. made ≡ first_of
+        (λ destination. counterexample_between checker.old asked.now.wanted asked.now.conns.now (Work source) (Work destination))
         destinations.now) }
     ensures same { checker.new ≡ checker.old }
     ensures settled { AreSettled checker.new asked.now.wanted asked.now.conns.now settled.new.keys }
@@ -58,8 +58,8 @@ fn first_to_work(
     requires source { IsWorkload checker.old source }
     requires destination { IsWorkload checker.old destination }
     requires settled { AreSettled checker.old asked.now.wanted asked.now.conns.now settled.old.keys }
-    ensures counter { IfOk result (λ made. made
-        ≡ counter_between checker.old asked.now.wanted asked.now.conns.now (Work source) (Work destination)) }
+    ensures counterexample { IfOk result (λ made. made
+        ≡ counterexample_between checker.old asked.now.wanted asked.now.conns.now (Work source) (Work destination)) }
     ensures same { checker.new ≡ checker.old }
     ensures settled { AreSettled checker.new asked.now.wanted asked.now.conns.now settled.new.keys }
 {
@@ -88,8 +88,8 @@ fn first_between(
 ) -> Result<Option<Counterexample>, NoMemory>
     requires source { IsWorkload checker.old source }
     requires destination { IsWorkload checker.old destination }
-    ensures counter { IfOk result (λ made. made
-        ≡ counter_between checker.old asked.now.wanted asked.now.conns.now (Work source) (Work destination)) }
+    ensures counterexample { IfOk result (λ made. made
+        ≡ counterexample_between checker.old asked.now.wanted asked.now.conns.now (Work source) (Work destination)) }
     ensures same { checker.new ≡ checker.old }
 {
     let folded = checker.folded();
@@ -124,8 +124,8 @@ fn first_in(
     requires source { IsWorkload checker.old source }
     requires destination { IsWorkload checker.old destination }
     requires apart { is_alone (folding_of checker.old) source destination ≡ false }
-    ensures counter { IfOk result (λ made. made
-        ≡ counter_in checker.old asked.now.wanted asked.now.conns.now (Work source) (Work destination) family) }
+    ensures counterexample { IfOk result (λ made. made
+        ≡ counterexample_in checker.old asked.now.wanted asked.now.conns.now (Work source) (Work destination) family) }
     ensures same { checker.new ≡ checker.old }
 {
     let passes = checker.passing(source, destination, family)?;

@@ -2,7 +2,7 @@
 use Rattle.std.proofs.Common.{◌≡◌, List, not, Contains, Ok, sym, ap, subst}
 use Rattle.std.proofs.lemmas.Bool.{and_from, and_parts, not-true}
 use Rattle.std.proofs.lemmas.List.Elements.{All-contains}
-use Rattle.np_check.specs.Counters.{allows_between, complies}
+use Rattle.np_check.specs.Counterexamples.{allows_between, complies}
 use Rattle.np_check.specs.FirstPacket.{IsBroken, IsEndOf, IsFirstBroken}
 use Rattle.np_command_check.specs.Types.{AskedLine, At, Broken, Counterexample, EndForm, Ends, EstateLists, PlaceEnd, StatementLine, StatementText, Work}
 use Rattle.np_check.specs.declared.question.Question.{Question}

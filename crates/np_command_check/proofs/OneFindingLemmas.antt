@@ -1,7 +1,7 @@
 -- What is found of a file is one thing. For `one_finding_says_what_holds`.
 use Rattle.std.proofs.Common.{◌≡◌, ℕ, List, [], ◌∷◌, ◌++◌, All, refl, sym, ap, subst, ◌∙◌, arith}
 use Rattle.std.proofs.lemmas.List.Elements.{All-contains, All-head, All-tail, Contains-append_right}
-use Rattle.np_check.specs.Counters.{allows_between}
+use Rattle.np_check.specs.Counterexamples.{allows_between}
 use Rattle.np_command_check.specs.Types.{Broken, Counterexample, EstateLists, StatementLine}
 use Rattle.np_command.specs.Sinks.{SinkTrace}
 use Rattle.np_command_check.proofs.OneListLemmas.{one-list}

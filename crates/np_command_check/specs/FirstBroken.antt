@@ -1,6 +1,6 @@
 -- The first statement that does not hold, and the first packet that breaks it.
 use Rattle.std.specs.Prelude.{ℕ, ◌≡◌, ◌≤◌, List, ◌∷◌, ◌++◌, false, All, Contains}
-use Rattle.np_check.specs.Counters.{allows_between, complies, families_between}
+use Rattle.np_check.specs.Counterexamples.{allows_between, complies, families_between}
 use Rattle.np_check.specs.Order.{comes_before, family_before, proto_before}
 use Rattle.np_command_check.specs.Types.{At, Broken, Counterexample, EndForm, EstateLists, PlaceEnd, StatementLine, StatementText, Work}
 use Rattle.np_fold.specs.Workloads.{number_of}

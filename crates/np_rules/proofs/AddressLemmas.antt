@@ -16,7 +16,7 @@ use Rattle.np_conns.specs.Conns.{Conns, has_spot, is_spot}
 use Rattle.np_pieces.specs.Pieces as pieces
 use Rattle.np_model.specs.declared.network_policy.NetPeer.TheVariants as net
 use Rattle.np_rules.specs.model.Ends.{End, address, destination_of}
-use Rattle.np_rules.specs.EveryAddress.{AddressSpot, address_contact, address_of, admin_peer_has, has_place, is_place, net_peer_has, spot_of}
+use Rattle.np_rules.specs.EveryAddress.{AddressSpot, address_contact, address_of, admin_peer_has, has_address_spot, is_address_spot, net_peer_has, spot_of}
 use Rattle.np_rules.specs.model.Peers.{net_peer_matches}
 use Rattle.np_rules.specs.model.PortEntries.{admin_entry_matches, net_entry_matches}
 use Rattle.np_rules.specs.model.Rules.{admin_rule_matches, net_rule_matches, none_or_any}
@@ -34,15 +34,15 @@ pub copied_inside : (between inside : Bool) (conns copy none : Conns) (spot : Po
 copied_inside between true conns copy none spot same empty = ap (λ set. between && has_spot set spot) same
 copied_inside between false conns copy none spot same empty = ap (λ b. between && b) empty
 
-pub has_place-over : (addresses : AddressRanges) (conns : Conns) (first second : List (Piece ℕ Conns)) →
+pub has_address_spot-over : (addresses : AddressRanges) (conns : Conns) (first second : List (Piece ℕ Conns)) →
     ((place : At ℕ PortSpot) → pieces.has_spot (λ a. a) has_spot first place ≡
     (is_between 0 (2 ^ 32 - 1) place.point && (holds (λ a. a) addresses.first place.point && has_spot conns place.spot))) →
     ((place : At ℕ PortSpot) → pieces.has_spot (λ a. a) has_spot second place ≡
     (is_between 0 (2 ^ 128 - 1) place.point && (holds (λ a. a) addresses.second place.point && has_spot conns place.spot))) →
-    (place : AddressSpot) → is_place place ≡ true → has_place (record { first = first; second = second }) place ≡ (set_has addresses (address_of place) && has_spot conns (spot_of place))
-has_place-over addresses conns first second in_first in_second (First place) within =
+    (place : AddressSpot) → is_address_spot place ≡ true → has_address_spot (record { first = first; second = second }) place ≡ (set_has addresses (address_of place) && has_spot conns (spot_of place))
+has_address_spot-over addresses conns first second in_first in_second (First place) within =
     in_first place ∙ ap (λ b. b && (holds (λ a. a) addresses.first place.point && has_spot conns place.spot)) (and_parts _ _ within).0
-has_place-over addresses conns first second in_first in_second (Second place) within =
+has_address_spot-over addresses conns first second in_first in_second (Second place) within =
     in_second place ∙ ap (λ b. b && (holds (λ a. a) addresses.second place.point && has_spot conns place.spot)) (and_parts _ _ within).0
 
 pub set_has-minus : (set part made : AddressRanges) → ((spot : Which ℕ ℕ) → ranges_have made spot ≡ (ranges_have set spot && not (ranges_have part spot))) → (a : Address) →
@@ -69,7 +69,7 @@ below last n is = grind (arith, nat_tests)
 -- ---- what a rule matches at an address
 
 -- a place of the space has an address and a port
-pub place_parts : (place : AddressSpot) → is_place place ≡ true → IsAddress (address_of place) × (is_spot (spot_of place) ≡ true)
+pub place_parts : (place : AddressSpot) → is_address_spot place ≡ true → IsAddress (address_of place) × (is_spot (spot_of place) ≡ true)
 place_parts (First place) within = (below (2 ^ 32 - 1) place.point (and_parts _ _ within).0, (and_parts _ _ within).1)
 place_parts (Second place) within = (below (2 ^ 128 - 1) place.point (and_parts _ _ within).0, (and_parts _ _ within).1)
 
@@ -86,7 +86,7 @@ none_or_any-same f g same (x ∷ xs) = list_any-agrees f g same (x ∷ xs)
 pub net_at_place : (namespace : List ℕ) (rule : NetRule) (direction : Direction) (near : End) (addresses : AddressRanges) (conns : Conns) →
     ((a : Address) → IsAddress a → set_has addresses a ≡ none_or_any (λ peer. net_peer_has peer a) rule.peers) →
     ((a : Address) (spot : PortSpot) → is_spot spot ≡ true → has_spot conns spot ≡ none_or_any (λ entry. net_entry_matches entry (destination_of direction near (address a)) spot) rule.ports) →
-    (place : AddressSpot) → is_place place ≡ true → (set_has addresses (address_of place) && has_spot conns (spot_of place)) ≡ net_rule_matches namespace rule (address_contact direction near place)
+    (place : AddressSpot) → is_address_spot place ≡ true → (set_has addresses (address_of place) && has_spot conns (spot_of place)) ≡ net_rule_matches namespace rule (address_contact direction near place)
 net_at_place namespace rule direction near addresses conns peers ports place within =
     let parts = place_parts place within in
     let a = address_of place in
@@ -98,7 +98,7 @@ net_at_place namespace rule direction near addresses conns peers ports place wit
 pub admin_at_place : (rule : AdminRule) (direction : Direction) (near : End) (addresses : AddressRanges) (conns : Conns) →
     ((a : Address) → IsAddress a → set_has addresses a ≡ list_any (λ peer. admin_peer_has peer a) rule.peers) →
     ((a : Address) (spot : PortSpot) → is_spot spot ≡ true → has_spot conns spot ≡ none_or_any (λ entry. admin_entry_matches entry (destination_of direction near (address a)) spot) rule.ports) →
-    (place : AddressSpot) → is_place place ≡ true → (set_has addresses (address_of place) && has_spot conns (spot_of place)) ≡ admin_rule_matches rule (address_contact direction near place)
+    (place : AddressSpot) → is_address_spot place ≡ true → (set_has addresses (address_of place) && has_spot conns (spot_of place)) ≡ admin_rule_matches rule (address_contact direction near place)
 admin_at_place rule direction near addresses conns peers ports place within =
     let parts = place_parts place within in
     let a = address_of place in
@@ -109,7 +109,7 @@ admin_at_place rule direction near addresses conns peers ports place within =
 
 -- a rule of a NetworkPolicy without addresses matches nothing
 pub net_nowhere : (namespace : List ℕ) (rule : NetRule) (direction : Direction) (near : End) (addresses : AddressRanges) → ((spot : Which ℕ ℕ) → ranges_have addresses spot ≡ false) →
-    ((a : Address) → IsAddress a → set_has addresses a ≡ none_or_any (λ peer. net_peer_has peer a) rule.peers) → (place : AddressSpot) → is_place place ≡ true →
+    ((a : Address) → IsAddress a → set_has addresses a ≡ none_or_any (λ peer. net_peer_has peer a) rule.peers) → (place : AddressSpot) → is_address_spot place ≡ true →
     net_rule_matches namespace rule (address_contact direction near place) ≡ false
 net_nowhere namespace rule direction near addresses none peers place within =
     let a = address_of place in
@@ -120,7 +120,7 @@ net_nowhere namespace rule direction near addresses none peers place within =
 
 -- nor does an admin rule
 pub admin_nowhere : (rule : AdminRule) (direction : Direction) (near : End) (addresses : AddressRanges) → ((spot : Which ℕ ℕ) → ranges_have addresses spot ≡ false) →
-    ((a : Address) → IsAddress a → set_has addresses a ≡ list_any (λ peer. admin_peer_has peer a) rule.peers) → (place : AddressSpot) → is_place place ≡ true →
+    ((a : Address) → IsAddress a → set_has addresses a ≡ list_any (λ peer. admin_peer_has peer a) rule.peers) → (place : AddressSpot) → is_address_spot place ≡ true →
     admin_rule_matches rule (address_contact direction near place) ≡ false
 admin_nowhere rule direction near addresses none peers place within =
     let a = address_of place in

@@ -25,12 +25,12 @@ spot_of (First place) = place.spot
 spot_of (Second place) = place.spot
 
 -- whether the number is one of the family, and the port is one
-abbrev pub is_place : AddressSpot → Bool
-is_place = by_side (λ place. is_between 0 (2 ^ 32 - 1) place.point && is_spot place.spot) (λ place. is_between 0 (2 ^ 128 - 1) place.point && is_spot place.spot)
+abbrev pub is_address_spot : AddressSpot → Bool
+is_address_spot = by_side (λ place. is_between 0 (2 ^ 32 - 1) place.point && is_spot place.spot) (λ place. is_between 0 (2 ^ 128 - 1) place.point && is_spot place.spot)
 
 -- whether the connections at the address have the spot
-abbrev pub has_place : Beside (List (Piece ℕ Conns)) (List (Piece ℕ Conns)) → AddressSpot → Bool
-has_place set = by_side (pieces.has_spot (λ a. a) has_spot set.first) (pieces.has_spot (λ a. a) has_spot set.second)
+abbrev pub has_address_spot : Beside (List (Piece ℕ Conns)) (List (Piece ℕ Conns)) → AddressSpot → Bool
+has_address_spot set = by_side (pieces.has_spot (λ a. a) has_spot set.first) (pieces.has_spot (λ a. a) has_spot set.second)
 
 -- what the side of a near end looks at, where the address is the far end
 abbrev pub address_contact : Direction → End → AddressSpot → Contact

@@ -91,8 +91,8 @@ impl EveryAddress<'_> {
 
 // These connections at these addresses, and none at any other.
 fn at_addresses(alloc: Global, addresses: &AddrSet, conns: &ConnSet) -> Result<AddrConns, NoMemory>
-    ensures { IfOk result (λ made. (place : spec.AddressSpot) → spec.is_place place ≡ true →
-        spec.has_place made place
+    ensures { IfOk result (λ made. (place : spec.AddressSpot) → spec.is_address_spot place ≡ true →
+        spec.has_address_spot made place
         ≡ (set_has addresses.now (spec.address_of place) && has_spot conns.now (spec.spot_of place))) }
 {
     let first = pieces_at(alloc, &addresses.first, conns)?;

@@ -4,7 +4,7 @@ ghost use Rattle.std.specs.List.{slice_get};
 ghost use Rattle.np_conns.specs.Conns.{IsConns, is_spot, has_spot};
 ghost use Rattle.np_model.specs.Lawful.{IsFew};
 ghost use Rattle.np_pieces.specs.Pieces.{Covers};
-ghost use Rattle.np_rules.specs.EveryAddress.{AddressSpot, has_place, is_place};
+ghost use Rattle.np_rules.specs.EveryAddress.{AddressSpot, has_address_spot, is_address_spot};
 ghost use Rattle.np_rules.specs.LayerRules as spec;
 ghost use Rattle.np_rules.specs.Layers.{Pairwise};
 ghost use Rattle.np_rules.specs.model.NetTier.{isolates};
@@ -197,8 +197,8 @@ impl<'a> PodRules<'a> {
         alloc: Global,
         steps: &mut Steps<L>,
     ) -> Result<Layer<AddrConns>, NoMemory>
-        ensures layer { IfOk result (IsSideLayer has_place is_place self.now with_addresses) }
-        ensures verdict { IfOk result (SaysVerdicts has_place is_place self.now with_addresses) }
+        ensures layer { IfOk result (IsSideLayer has_address_spot is_address_spot self.now with_addresses) }
+        ensures verdict { IfOk result (SaysVerdicts has_address_spot is_address_spot self.now with_addresses) }
         ensures cost { OnOk result (steps.new ≡ steps.old + side_rule_count self.now) }
         ensures least { steps.old ≤ steps.new }
         ensures most { steps.new ≤ steps.old + side_rule_count self.now }
@@ -217,8 +217,8 @@ impl<'a> PodRules<'a> {
         alloc: Global,
         steps: &mut Steps<L>,
     ) -> Result<AddrConns, NoMemory>
-        ensures members { IfOk result (λ made. (place : AddressSpot) → is_place place ≡ true →
-            has_place made place
+        ensures members { IfOk result (λ made. (place : AddressSpot) → is_address_spot place ≡ true →
+            has_address_spot made place
             ≡ side_allows self.now.lists self.now.direction (near_pod self.now) (with_addresses self.now place)) }
         ensures four { IfOk result (λ made. Covers (λ n. n) IsConns 0 (2 ^ 32 - 1) made.first) }
         ensures six { IfOk result (λ made. Covers (λ n. n) IsConns 0 (2 ^ 128 - 1) made.second) }

@@ -4,7 +4,7 @@ use Rattle.std.specs.List.{list_any}
 use Rattle.std.proofs.lemmas.Bool.{and_from, and_parts, cases_Bool, or_left, or_right}
 use Rattle.std.proofs.lemmas.List.Elements.{All-cons, All-nil}
 use Rattle.np_check.proofs.LeastLemmas.{first_broken, nothing_broken}
-use Rattle.np_check.specs.Counters.{allows_between, complies, counter_of}
+use Rattle.np_check.specs.Counterexamples.{allows_between, complies, counterexample_of}
 use Rattle.np_check.specs.FirstPacket.{IsBroken}
 use Rattle.np_statements.specs.Types.{Addresses, Allow, AskedLine, Block, CheckedKinds, Counterexample, Deny, EndForm, EstateLists, Namespace, Pods, PortSpot, Question, StatementLine, Wanted, Work}
 use Rattle.np_conns.specs.Conns.{Conns, has_spot}
@@ -70,21 +70,21 @@ broken_in_all lists wanted all line packet within asks own =
           (sym (ap (λ (one : Wanted). not (complies one allowed)) same) ∙ parts.1);
     }
 
-one_holds : (lists : EstateLists) (wanted : Wanted) (all : Conns) (line : StatementLine) → counter_of lists (question_of_pods lists wanted all) ≡ None →
+one_holds : (lists : EstateLists) (wanted : Wanted) (all : Conns) (line : StatementLine) → counterexample_of lists (question_of_pods lists wanted all) ≡ None →
     ((spot : PortSpot) → asks_at wanted spot line ≡ true → has_spot all spot ≡ true) → HoldsOfPods lists wanted line
-one_holds lists wanted all line none within asks = of (counter_of lists question) refl
+one_holds lists wanted all line none within asks = of (counterexample_of lists question) refl
   where
     question : Question
     question = question_of_pods lists line.statement.wanted line.statement.conns
 
-    of : (found : Option Counterexample) → counter_of lists question ≡ found → counter_of lists question ≡ None
+    of : (found : Option Counterexample) → counterexample_of lists question ≡ found → counterexample_of lists question ≡ None
     of None is = is
     of (Some packet) is =
         let pods = pods_are lists in
         absurd (nothing_broken lists (question_of_pods lists wanted all) packet none
         (broken_in_all lists wanted all line packet within asks (first_broken lists question packet pods.ascend pods.ascend is).own))
 
-each_holds : (lists : EstateLists) (wanted : Wanted) (all : Conns) (lines : List StatementLine) → counter_of lists (question_of_pods lists wanted all) ≡ None →
+each_holds : (lists : EstateLists) (wanted : Wanted) (all : Conns) (lines : List StatementLine) → counterexample_of lists (question_of_pods lists wanted all) ≡ None →
     ((spot : PortSpot) → list_any (λ line. asks_at wanted spot line) lines ≡ true → has_spot all spot ≡ true) → All (HoldsOfPods lists wanted) lines
 each_holds lists wanted all [] none within = All-nil (HoldsOfPods lists wanted)
 each_holds lists wanted all (line ∷ lines) none within =
@@ -93,7 +93,7 @@ each_holds lists wanted all (line ∷ lines) none within =
     (each_holds lists wanted all lines none (λ spot any. within spot (or_right (asks_at wanted spot line) (list_any (λ one. asks_at wanted spot one) lines) any)))
 
 -- where nothing breaks what all of them ask, each holds
-pub hold-together : (lists : EstateLists) (wanted : Wanted) (all : Conns) (lines : List StatementLine) → counter_of lists (question_of_pods lists wanted all) ≡ None →
+pub hold-together : (lists : EstateLists) (wanted : Wanted) (all : Conns) (lines : List StatementLine) → counterexample_of lists (question_of_pods lists wanted all) ≡ None →
     ((spot : PortSpot) → has_spot all spot ≡ list_any (λ line. asks_at wanted spot line) lines) → All (HoldsOfPods lists wanted) lines
 hold-together lists wanted all lines none are = each_holds lists wanted all lines none (λ spot any. are spot ∙ any)
 
@@ -101,7 +101,7 @@ hold-together lists wanted all lines none are = each_holds lists wanted all line
 
 settled-none : (lists : EstateLists) (settled : CheckedKinds) (lines : List StatementLine) (i : ℕ) (line : StatementLine) → (i < length lines) × (line ≡ get_or lines i line) →
     AreSettled lists settled lines → is_settled settled line.statement ≡ true →
-    (wanted : Wanted) × (asks_pods wanted line.statement ≡ true) × (counter_of lists (question_of_pods lists line.statement.wanted line.statement.conns) ≡ None)
+    (wanted : Wanted) × (asks_pods wanted line.statement ≡ true) × (counterexample_of lists (question_of_pods lists line.statement.wanted line.statement.conns) ≡ None)
 settled-none lists settled lines i line turn are is =
     elim (cases_Bool (settled.allow && asks_pods Allow line.statement)) [
       | inl allow ↦ by Allow settled.allow (and_parts settled.allow (asks_pods Allow line.statement) allow) are.allow
@@ -109,7 +109,7 @@ settled-none lists settled lines i line turn are is =
     ]
   where
     by : (wanted : Wanted) (known : Bool) → (known ≡ true) × (asks_pods wanted line.statement ≡ true) → (known ≡ true → All (HoldsOfPods lists wanted) lines) →
-        (wanted : Wanted) × (asks_pods wanted line.statement ≡ true) × (counter_of lists (question_of_pods lists line.statement.wanted line.statement.conns) ≡ None)
+        (wanted : Wanted) × (asks_pods wanted line.statement ≡ true) × (counterexample_of lists (question_of_pods lists line.statement.wanted line.statement.conns) ≡ None)
     by wanted known both all = (wanted, both.1, at_turn (HoldsOfPods lists wanted) lines i line turn (all both.0) both.1)
 
 -- a line that is known to hold is left out

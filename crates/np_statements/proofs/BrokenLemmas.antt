@@ -8,7 +8,7 @@ use Rattle.np_check.proofs.FirstLemmas.{none_each}
 use Rattle.np_check.proofs.HoldLemmas.{found_none, holds}
 use Rattle.np_check.proofs.LeastLemmas.{first_broken as first_packet}
 use Rattle.np_check.proofs.NoneLemmas.{none_all, none_map}
-use Rattle.np_check.specs.Counters.{complies, counter_of}
+use Rattle.np_check.specs.Counterexamples.{complies, counterexample_of}
 use Rattle.np_check.specs.FirstPacket.{IsEndOf}
 use Rattle.np_check.specs.Firsts.{first_of}
 use Rattle.np_check.specs.Holding.{Holds, IsOf}
@@ -29,12 +29,12 @@ use Rattle.np_kinds.specs.Between.{IsWorkload}
 -- ---- one line
 
 -- a line without such a packet is not broken
-pub not_broken : (lists : EstateLists) (asked : AskedLine) → counter_of lists asked.question ≡ None → None ≡ broken_of lists asked
+pub not_broken : (lists : EstateLists) (asked : AskedLine) → counterexample_of lists asked.question ≡ None → None ≡ broken_of lists asked
 unfolding broken_of
 not_broken lists asked none = sym (ap (option_map (broken_by lists asked.line)) none)
 
 -- the verdict of the packet is not the wanted one
-unwanted : (lists : EstateLists) (question : Question) (packet : Counterexample) → IsQuestion lists question → counter_of lists question ≡ Some packet →
+unwanted : (lists : EstateLists) (question : Question) (packet : Counterexample) → IsQuestion lists question → counterexample_of lists question ≡ Some packet →
     complies question.wanted (is_allowed lists packet) ≡ false
 unwanted lists question packet is found =
     let first = first_packet lists question packet is.sources_ascend is.destinations_ascend found in
@@ -45,7 +45,7 @@ one_verdict : (wanted : Wanted) (verdict other : Bool) → complies wanted verdi
 one_verdict Allow verdict other is also = is ∙ sym also
 one_verdict Deny verdict other is also = not-false verdict is ∙ sym (not-false other also)
 
-pub broken-is : (lists : EstateLists) (asked : AskedLine) (packet : Counterexample) (allowed : Bool) → IsAsked lists asked → counter_of lists asked.question ≡ Some packet →
+pub broken-is : (lists : EstateLists) (asked : AskedLine) (packet : Counterexample) (allowed : Bool) → IsAsked lists asked → counterexample_of lists asked.question ≡ Some packet →
     complies asked.question.wanted allowed ≡ false → Some (record { line = asked.line; packet = packet; allowed = allowed }) ≡ broken_of lists asked
 unfolding broken_of
 broken-is lists asked packet allowed is found does =
@@ -58,7 +58,7 @@ place-is : (lists : EstateLists) (ends : Ends) (place : PlaceEnd) → All (IsWor
 place-is lists ends (Work work) works is = All-contains (IsWorkload lists) ends.works work works is
 place-is lists ends (At address) works is = tt
 
-pub packet-places : (lists : EstateLists) (question : Question) (packet : Counterexample) → IsQuestion lists question → counter_of lists question ≡ Some packet →
+pub packet-places : (lists : EstateLists) (question : Question) (packet : Counterexample) → IsQuestion lists question → counterexample_of lists question ≡ Some packet →
     IsPlace lists packet.source × IsPlace lists packet.destination
 packet-places lists question packet is found =
     let first = first_packet lists question packet is.sources_ascend is.destinations_ascend found in
@@ -126,7 +126,7 @@ hold-all lists (line ∷ lines) asked lawful is all =
 
 unbroken-holds : (lists : EstateLists) (asked : AskedLine) → IsLawful lists → broken_of lists asked ≡ None → AskedHolds lists asked
 unfolding broken_of
-unbroken-holds lists asked lawful none = holds lists asked.question lawful (none_map (broken_by lists asked.line) (counter_of lists asked.question) none)
+unbroken-holds lists asked lawful none = holds lists asked.question lawful (none_map (broken_by lists asked.line) (counterexample_of lists asked.question) none)
 
 pub nothing-broken : (lists : EstateLists) (lines : List StatementLine) (asked : List AskedLine) → IsLawful lists → All IsWellLine lines → ends_found lists lines ≡ Ok asked →
     (first_broken lists asked ≡ None) ↔ All (LineHolds lists) lines
@@ -143,14 +143,14 @@ nothing-broken lists lines asked lawful well found = (
 
 record IsBrokenBy (lists : EstateLists) (asked : AskedLine) (broken : Broken) : Type 0 where
   packet : Counterexample
-  found : counter_of lists asked.question ≡ Some packet
+  found : counterexample_of lists asked.question ≡ Some packet
   is : broken ≡ broken_by lists asked.line packet
 
 broken-by : (lists : EstateLists) (asked : AskedLine) (broken : Broken) → broken_of lists asked ≡ Some broken → IsBrokenBy lists asked broken
 unfolding broken_of
-broken-by lists asked broken is = of (counter_of lists asked.question) refl is
+broken-by lists asked broken is = of (counterexample_of lists asked.question) refl is
   where
-    of : (found : Option Counterexample) → counter_of lists asked.question ≡ found → option_map (broken_by lists asked.line) found ≡ Some broken → IsBrokenBy lists asked broken
+    of : (found : Option Counterexample) → counterexample_of lists asked.question ≡ found → option_map (broken_by lists asked.line) found ≡ Some broken → IsBrokenBy lists asked broken
     of None none is = absurd (none-some broken is)
     of (Some packet) found is = record { packet = packet; found = found; is = sym (same_Some (broken_by lists asked.line packet) broken is) }
 

@@ -1,6 +1,6 @@
 -- Statements of any pod and any pod, asked at once.
 use Rattle.std.specs.Prelude.{◌≡◌, List, Bool, true, false, ◌&&◌, ◌||◌, All, None}
-use Rattle.np_check.specs.Counters.{counter_of}
+use Rattle.np_check.specs.Counterexamples.{counterexample_of}
 use Rattle.np_statements.specs.Types.{Addresses, Allow, Block, CheckedKinds, Deny, EndForm, EstateLists, Namespace, Pods, PortSpot, Question, StatementLine, StatementText, Wanted, Work}
 use Rattle.np_conns.specs.Conns.{Conns, has_spot}
 use Rattle.np_statements.specs.Ends.{all_works, works_alone}
@@ -36,7 +36,7 @@ question_of_pods lists wanted conns = record { wanted = wanted; source = works_a
 
 -- where the line is of such a statement, the statement holds
 abbrev pub HoldsOfPods : EstateLists → Wanted → StatementLine → Type 0
-HoldsOfPods lists wanted line = asks_pods wanted line.statement ≡ true → counter_of lists (question_of_pods lists line.statement.wanted line.statement.conns) ≡ None
+HoldsOfPods lists wanted line = asks_pods wanted line.statement ≡ true → counterexample_of lists (question_of_pods lists line.statement.wanted line.statement.conns) ≡ None
 
 -- so do those of the verdicts that are known to
 pub record AreSettled (lists : EstateLists) (settled : CheckedKinds) (lines : List StatementLine) : Type 0 where

@@ -1,6 +1,6 @@
 -- The first line whose statement does not hold.
 use Rattle.std.specs.Prelude.{ℕ, List, Bool, Option, option_map, Result, Ok}
-use Rattle.np_check.specs.Counters.{allows_between, counter_of}
+use Rattle.np_check.specs.Counterexamples.{allows_between, counterexample_of}
 use Rattle.np_check.specs.Firsts.{first_of}
 use Rattle.np_statements.specs.Types.{AskedLine, At, Broken, Counterexample, EstateLists, PlaceEnd, StatementLine}
 use Rattle.np_check.specs.declared.counterexample.PlaceEnd.TheVariants.{Work}
@@ -18,7 +18,7 @@ broken_by lists line packet = record { line = line; packet = packet; allowed = i
 
 -- how a line is broken, if it is: by the first packet that does not comply
 unfoldable pub broken_of : EstateLists → AskedLine → Option Broken
-broken_of lists asked = option_map (broken_by lists asked.line) (counter_of lists asked.question)
+broken_of lists asked = option_map (broken_by lists asked.line) (counterexample_of lists asked.question)
 
 -- how the first broken line is
 unfoldable pub first_broken : EstateLists → List AskedLine → Option Broken

@@ -2,7 +2,7 @@
 use Rattle.std.specs.Prelude.{◌≡◌, ◌≢◌, ◌<◌, ℕ, true, Contains, length}
 use Rattle.np_addr.specs.Addresses.{IsAddress, family_of}
 use Rattle.np_statements.specs.Types.{Address, EndForm, EstateLists, Family, PortSpot, StatementLine, StatementText}
-use Rattle.np_check.specs.Counters.{complies, number_of_address}
+use Rattle.np_check.specs.Counterexamples.{complies, number_of_address}
 use Rattle.np_conns.specs.Conns.{has_spot, is_spot}
 use Rattle.np_model.specs.Families.{families_of}
 use Rattle.np_model.specs.declared.direction.Direction.TheVariants.{Egress, Ingress}

@@ -6,7 +6,7 @@ ghost use Rattle.np_conns.specs.declared.port_spot.PortSpot.{PortSpot};
 ghost use Rattle.np_statements.specs.AllPods as spec;
 ghost use Rattle.np_statements.specs.AllPods.{AreSettled, HoldsOfPods};
 
-use crate::checking::counter_of;
+use crate::checking::counterexample_of;
 use crate::ends::any_pod;
 use crate::statement_line::StatementLine;
 use crate::statement_text::{EndForm, StatementText};
@@ -77,7 +77,7 @@ fn hold_together(
         conns: joined_conns(alloc, lines, wanted)?,
     };
     // With `?` the prover has no plan for the addresses of a packet that no signature here names.
-    match counter_of(checker, question) {
+    match counterexample_of(checker, question) {
         Ok(None) => Ok(true),
         Ok(Some(_)) => Ok(false),
         Err(fault) => Err(fault),

@@ -1,6 +1,6 @@
 //! The first line that does not hold.
 ghost use Rattle.std.specs.Prelude.{◌≡◌, All, IfOk, IfSome, false};
-ghost use Rattle.np_check.specs.Counters.{complies, counter_of};
+ghost use Rattle.np_check.specs.Counterexamples.{complies, counterexample_of};
 ghost use Rattle.np_statements.specs.Answers.{GivesEnds};
 ghost use Rattle.np_statements.specs.AskedLines.{IsAsked, IsQuestion, IsWellLine};
 ghost use Rattle.np_statements.specs.BrokenLines as spec;
@@ -58,7 +58,7 @@ fn broken_of(checker: &mut Checker<'_>, asked: AskedLine) -> Result<Option<Broke
 {
     let AskedLine { line, question } = asked;
     let allowed = broken_verdict(question.wanted);
-    let Some(packet) = counter_of(checker, question)? else {
+    let Some(packet) = counterexample_of(checker, question)? else {
         return Ok(None);
     };
     Ok(Some(Broken {
@@ -76,12 +76,12 @@ fn broken_verdict(wanted: Wanted) -> bool
 }
 
 /// The first packet that does not comply with what is asked.
-pub(crate) fn counter_of(
+pub(crate) fn counterexample_of(
     checker: &mut Checker<'_>,
     question: Question,
 ) -> Result<Option<Counterexample>, NoMemory>
     requires { IsQuestion checker.old question }
-    ensures counter { IfOk result (λ made. made ≡ counter_of checker.old question) }
+    ensures counterexample { IfOk result (λ made. made ≡ counterexample_of checker.old question) }
     ensures same { checker.new ≡ checker.old }
 {
     let statement = Statement::new(question);

@@ -10,7 +10,7 @@ use Rattle.np_table.proofs.RangeOneList.{right-walk, walk-agrees}
 use Rattle.np_table.proofs.RangePieces.{Covers-right}
 use Rattle.np_table.specs.Right.{stretches_of, walk}
 use Rattle.np_rules.specs.model.Ends.{PodEnd, pod}
-use Rattle.np_rules.specs.EveryAddress.{AddressSpot, address_contact, has_place, is_place}
+use Rattle.np_rules.specs.EveryAddress.{AddressSpot, address_contact, has_address_spot, is_address_spot}
 use Rattle.np_rules.specs.model.Sides.{side_allows}
 use Rattle.np_rules.specs.model.Verdict.{allows}
 use Rattle.np_table.specs.Rows.{address_row, four_of, rows_of_addresses, six_of}
@@ -48,7 +48,7 @@ side-six lists Egress p n spot = and_true (side_allows lists Egress p (address_c
 
 -- the pieces of a set that has what the pod's side allows, for IPv4
 pub stretches_of-four : (lists : EstateLists) (direction : Direction) (p : PodEnd) (made : Beside (List (Piece ℕ Conns)) (List (Piece ℕ Conns))) → Covers (λ n. n) IsConns 0 (2 ^ 32 - 1) made.first →
-    ((place : AddressSpot) → is_place place ≡ true → has_place made place ≡ side_allows lists direction p (address_contact direction (pod p) place)) →
+    ((place : AddressSpot) → is_address_spot place ≡ true → has_address_spot made place ≡ side_allows lists direction p (address_contact direction (pod p) place)) →
     stretches_of (λ n. n) made.first ≡ walk (with_address lists direction (pod p) Four) 0 (2 ^ 32 - 1)
 stretches_of-four lists direction p made covers agrees =
     stretches_of-walk 0 (2 ^ 32 - 1) made.first (with_address lists direction (pod p) Four) (lit≤ tt) covers (λ n spot above below is.
@@ -56,7 +56,7 @@ stretches_of-four lists direction p made covers agrees =
 
 -- and for IPv6
 pub stretches_of-six : (lists : EstateLists) (direction : Direction) (p : PodEnd) (made : Beside (List (Piece ℕ Conns)) (List (Piece ℕ Conns))) → Covers (λ n. n) IsConns 0 (2 ^ 128 - 1) made.second →
-    ((place : AddressSpot) → is_place place ≡ true → has_place made place ≡ side_allows lists direction p (address_contact direction (pod p) place)) →
+    ((place : AddressSpot) → is_address_spot place ≡ true → has_address_spot made place ≡ side_allows lists direction p (address_contact direction (pod p) place)) →
     stretches_of (λ n. n) made.second ≡ walk (with_address lists direction (pod p) Six) 0 (2 ^ 128 - 1)
 stretches_of-six lists direction p made covers agrees =
     stretches_of-walk 0 (2 ^ 128 - 1) made.second (with_address lists direction (pod p) Six) (lit≤ tt) covers (λ n spot above below is.

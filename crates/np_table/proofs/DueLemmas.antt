@@ -6,7 +6,7 @@ use Rattle.std.proofs.lemmas.Bool.{cases_lt, cases_order, lt-ltb, le-ltb}
 use Rattle.std.proofs.lemmas.Nat.{div-add-mod', div-mul-add}
 use Rattle.np_table.specs.Types.{CachedConns, EstateLists}
 use Rattle.np_fold.specs.Workloads.{Folding}
-use Rattle.np_table.specs.RowCache.{kept_count}
+use Rattle.np_table.specs.RowCache.{cached_count}
 use Rattle.np_table.specs.ToCome.{IsOfSameSource, due_at, due_from, most_rules, greatest, pair_count, place_count}
 
 -- ---- the greatest number
@@ -153,13 +153,13 @@ same_source count place below more =
 module _ (lists : EstateLists) (folding : Folding) (old new place : ℕ) (kept kept' : List (Option (List CachedConns))) where
   -- where its source is the same
   pub due_from-same_source : place < length folding.workloads * length folding.workloads → place % length folding.workloads + 1 ≢ length folding.workloads →
-      new + 4 * most_rules lists folding * (folding.kind_count - kept_count kept') ≤ old + 4 * most_rules lists folding * (folding.kind_count - kept_count kept) →
+      new + 4 * most_rules lists folding * (folding.kind_count - cached_count kept') ≤ old + 4 * most_rules lists folding * (folding.kind_count - cached_count kept) →
       new + due_from lists folding (place + 1) kept' ≤ old + due_from lists folding place kept
   unfolding due_from
   due_from-same_source below more steps =
       let count = length folding.workloads in
-      let unkept = folding.kind_count - kept_count kept in
-      let unkept' = folding.kind_count - kept_count kept' in
+      let unkept = folding.kind_count - cached_count kept in
+      let unkept' = folding.kind_count - cached_count kept' in
       let d = destination-below count place below in
       let due = λ (u p : ℕ). due_at count folding.kind_count (most_rules lists folding) u p in
       let is : place / count * count + place % count ≡ place = div-add-mod' place count in
@@ -169,13 +169,13 @@ module _ (lists : EstateLists) (folding : Folding) (old new place : ℕ) (kept k
 
   -- where it is the next one, and nothing is kept
   pub due_from-next_source : place < length folding.workloads * length folding.workloads → place % length folding.workloads + 1 ≡ length folding.workloads →
-      new + 4 * most_rules lists folding * (folding.kind_count - kept_count kept') ≤ old + 4 * most_rules lists folding * (folding.kind_count - kept_count kept) →
+      new + 4 * most_rules lists folding * (folding.kind_count - cached_count kept') ≤ old + 4 * most_rules lists folding * (folding.kind_count - cached_count kept) →
       new + due_from lists folding (place + 1) [] ≤ old + due_from lists folding place kept
   unfolding due_from
   due_from-next_source below last steps =
       let count = length folding.workloads in
-      let unkept = folding.kind_count - kept_count kept in
-      let unkept' = folding.kind_count - kept_count kept' in
+      let unkept = folding.kind_count - cached_count kept in
+      let unkept' = folding.kind_count - cached_count kept' in
       let s = source-below count place below in
       let all : folding.kind_count - 0 ≡ folding.kind_count = omega arith in
       let due = λ (u p : ℕ). due_at count folding.kind_count (most_rules lists folding) u p in
@@ -193,16 +193,16 @@ module _ (lists : EstateLists) (folding : Folding) (old new place : ℕ) (kept k
       new + due_from lists folding (place + 1) kept' ≤ old + due_from lists folding place kept
   unfolding due_from
   due_from-address up below steps =
-      due-address (length folding.workloads) folding.kind_count (most_rules lists folding) old new (folding.kind_count - kept_count kept) (folding.kind_count - kept_count kept') place up below steps
+      due-address (length folding.workloads) folding.kind_count (most_rules lists folding) old new (folding.kind_count - cached_count kept) (folding.kind_count - cached_count kept') place up below steps
 
   -- what is due has what was looked at for a pair
-  pub due_from-pair : place < length folding.workloads * length folding.workloads → new ≤ old + 4 * most_rules lists folding * (folding.kind_count - kept_count kept) →
+  pub due_from-pair : place < length folding.workloads * length folding.workloads → new ≤ old + 4 * most_rules lists folding * (folding.kind_count - cached_count kept) →
       new ≤ old + due_from lists folding place kept
   unfolding due_from
   due_from-pair below steps =
       let count = length folding.workloads in
       let is : place / count * count + place % count ≡ place = div-add-mod' place count in
-      let unkept = folding.kind_count - kept_count kept in
+      let unkept = folding.kind_count - cached_count kept in
       let P : ℕ → Type 0 = λ p. new ≤ old + due_at count folding.kind_count (most_rules lists folding) unkept p in
       subst P is (due-unkept count folding.kind_count (most_rules lists folding) old new unkept (place / count) (place % count) (source-below count place below)
       (destination-below count place below) steps)
@@ -250,4 +250,4 @@ module _ (count place later : ℕ) (same : IsOfSameSource count place later) whe
 pub due_from-over : (lists : EstateLists) (folding : Folding) (place later : ℕ) (kept : List (Option (List CachedConns))) → IsOfSameSource (length folding.workloads) place later →
     due_from lists folding later kept ≡ due_from lists folding place kept
 unfolding due_from
-due_from-over lists folding place later kept same = over-due (length folding.workloads) place later same folding.kind_count (most_rules lists folding) (folding.kind_count - kept_count kept)
+due_from-over lists folding place later kept same = over-due (length folding.workloads) place later same folding.kind_count (most_rules lists folding) (folding.kind_count - cached_count kept)

@@ -11,10 +11,10 @@ use Rattle.np_fold.specs.Workloads.{Folding, folding_of}
 use Rattle.np_table.proofs.RangeSets.{conns_of-agrees, conns_of-has_spot}
 use Rattle.np_table.specs.Right.{are_same_conns, conns_of}
 use Rattle.np_table.proofs.DueLemmas.{greatest-at, over-source, same_source, source-behind}
-use Rattle.np_table.proofs.KeptLemmas.{kept_count-below}
+use Rattle.np_table.proofs.KeptLemmas.{cached_count-below}
 use Rattle.np_kinds.proofs.KindNumbers.{kinds-by}
 use Rattle.np_kinds.proofs.PairLemmas.{pair_allows-alone, pair_allows-kinds}
-use Rattle.np_table.specs.RowCache.{IsKept, KeepsAlso, KeepsTheSame, kept_at, kept_count, kept_of, row_with}
+use Rattle.np_table.specs.RowCache.{IsCached, CachesAlso, CachesTheSame, cached_at, cached_count, cached_of, row_with}
 use Rattle.np_table.specs.Rows.{is_nothing, pair_key, pair_rows, row_if, rows_in, rows_of_both}
 use Rattle.np_kinds.specs.Between.{is_alone, pair_allows}
 use Rattle.np_table.specs.Table.{table_of}
@@ -24,11 +24,11 @@ use Rattle.np_table.specs.ToCome.{IsOfSameSource, most_rules, rules_of}
 
 -- the rows with what these have besides their ends
 abbrev with_ends : RowKey → List Row → List Row
-with_ends key rows = map (row_with key) (map kept_of rows)
+with_ends key rows = map (row_with key) (map cached_of rows)
 
 with_ends-append : (key : RowKey) (xs ys : List Row) → with_ends key (xs ++ ys) ≡ with_ends key xs ++ with_ends key ys
 with_ends-append key [] ys = refl
-with_ends-append key (x ∷ xs) ys = ap (λ (rows : List Row). row_with key (kept_of x) ∷ rows) (with_ends-append key xs ys)
+with_ends-append key (x ∷ xs) ys = ap (λ (rows : List Row). row_with key (cached_of x) ∷ rows) (with_ends-append key xs ys)
 
 with_ends-if : (key key' : RowKey) (family : Option Family) (conns : Conns) (none : Bool) →
     with_ends key' (if none then [] else record { key = key; family = family; conns = conns } ∷ []) ≡ (if none then [] else record { key = key'; family = family; conns = conns } ∷ [])
@@ -116,35 +116,35 @@ conns-same_kind lists folding source b b' family folded lawful =
 
 -- ---- what is kept
 
-nothing_there : (kind : ℕ) (conns : List CachedConns) → kept_at [] kind ≡ Some conns → ⊥
+nothing_there : (kind : ℕ) (conns : List CachedConns) → cached_at [] kind ≡ Some conns → ⊥
 nothing_there zero conns is = absurd (cc)
 nothing_there (suc kind) conns is = absurd (cc)
 
 -- at first nothing is
-pub IsKept-nothing : (lists : EstateLists) (folding : Folding) (source : ℕ) → IsKept lists folding source []
-unfolding IsKept
-IsKept-nothing lists folding source destination conns near far alone is = absurd (nothing_there (slice_index folding.kinds destination) conns is)
+pub IsCached-nothing : (lists : EstateLists) (folding : Folding) (source : ℕ) → IsCached lists folding source []
+unfolding IsCached
+IsCached-nothing lists folding source destination conns near far alone is = absurd (nothing_there (slice_index folding.kinds destination) conns is)
 
 -- what is kept stays right
-pub IsKept-same : (lists : EstateLists) (folding : Folding) (source : ℕ) (old new : List (Option (List CachedConns))) → IsKept lists folding source old → KeepsTheSame old new →
-    IsKept lists folding source new
-unfolding IsKept
-IsKept-same lists folding source old new kept same destination conns near far alone is =
+pub IsCached-same : (lists : EstateLists) (folding : Folding) (source : ℕ) (old new : List (Option (List CachedConns))) → IsCached lists folding source old → CachesTheSame old new →
+    IsCached lists folding source new
+unfolding IsCached
+IsCached-same lists folding source old new kept same destination conns near far alone is =
     kept destination conns near far alone (sym (same.all _) ∙ is)
 
 same_some : (found : Option (List CachedConns)) (a b : List CachedConns) → found ≡ Some a → found ≡ Some b → a ≡ b
 same_some found a b is is' = cc
 
 -- also with the rows to one more kind
-pub IsKept-also : (lists : EstateLists) (folding : Folding) (source destination : ℕ) (old new : List (Option (List CachedConns))) (rows : List Row) → folding ≡ folding_of lists → IsLawful lists →
-    destination < length folding.workloads → is_alone folding source destination ≡ false → rows ≡ pair_rows (table_of lists folding) source destination → IsKept lists folding source old →
-    KeepsAlso old new (slice_index folding.kinds destination) (map kept_of rows) → IsKept lists folding source new
-unfolding IsKept
-IsKept-also lists folding source destination old new rows folded lawful here here_alone made kept also other conns near far alone is =
+pub IsCached-also : (lists : EstateLists) (folding : Folding) (source destination : ℕ) (old new : List (Option (List CachedConns))) (rows : List Row) → folding ≡ folding_of lists → IsLawful lists →
+    destination < length folding.workloads → is_alone folding source destination ≡ false → rows ≡ pair_rows (table_of lists folding) source destination → IsCached lists folding source old →
+    CachesAlso old new (slice_index folding.kinds destination) (map cached_of rows) → IsCached lists folding source new
+unfolding IsCached
+IsCached-also lists folding source destination old new rows folded lawful here here_alone made kept also other conns near far alone is =
     elim (eqb_tells (slice_index folding.kinds other) (slice_index folding.kinds destination)) [
       | inl same ↦
-          let at = subst (λ (kind : ℕ). kept_at new kind ≡ Some conns) same.1 is in
-          ap (map (row_with (pair_key source other))) (same_some _ conns (map kept_of rows) at also.one)
+          let at = subst (λ (kind : ℕ). cached_at new kind ≡ Some conns) same.1 is in
+          ap (map (row_with (pair_key source other))) (same_some _ conns (map cached_of rows) at also.one)
           ∙ ap (with_ends (pair_key source other)) made
           ∙ with_ends-pair_rows lists folding source destination other (λ family. conns-same_kind lists folding source destination other family folded lawful near here far
           (sym same.1) here_alone alone)
@@ -158,11 +158,11 @@ some_kept (Some conns) f rows is = (conns, refl, cc)
 
 -- what is kept for the kind of a destination gives its rows
 pub rows-kept : (lists : EstateLists) (folding : Folding) (source destination : ℕ) (kept : List (Option (List CachedConns))) (rows : List Row) → source < length folding.workloads →
-    destination < length folding.workloads → is_alone folding source destination ≡ false → IsKept lists folding source kept →
-    Some rows ≡ option_map (map (row_with (pair_key source destination))) (kept_at kept (slice_index folding.kinds destination)) → rows ≡ pair_rows (table_of lists folding) source destination
-unfolding IsKept
+    destination < length folding.workloads → is_alone folding source destination ≡ false → IsCached lists folding source kept →
+    Some rows ≡ option_map (map (row_with (pair_key source destination))) (cached_at kept (slice_index folding.kinds destination)) → rows ≡ pair_rows (table_of lists folding) source destination
+unfolding IsCached
 rows-kept lists folding source destination kept rows near far alone is_kept is =
-    let there = some_kept (kept_at kept (slice_index folding.kinds destination)) (map (row_with (pair_key source destination))) rows is in
+    let there = some_kept (cached_at kept (slice_index folding.kinds destination)) (map (row_with (pair_key source destination))) rows is in
     there.2 ∙ is_kept destination there.0 near far alone there.1
 
 -- there are none exactly where nothing is kept
@@ -184,42 +184,42 @@ rules-most lists folding direction workload within =
 
 -- what is looked at for a pair is due for a kind for which nothing is kept
 pub pair-due : (lists : EstateLists) (folding : Folding) (old new kind : ℕ) (kept : List (Option (List CachedConns))) → kind < folding.kind_count → length kept ≤ folding.kind_count →
-    kept_at kept kind ≡ None → new ≤ old + 4 * most_rules lists folding → new ≤ old + 4 * most_rules lists folding * (folding.kind_count - kept_count kept)
+    cached_at kept kind ≡ None → new ≤ old + 4 * most_rules lists folding → new ≤ old + 4 * most_rules lists folding * (folding.kind_count - cached_count kept)
 pair-due lists folding old new kind kept within few none steps =
     let most = 4 * most_rules lists folding in
-    let low = kept_count-below kept kind folding.kind_count few within none in
-    let one : most * 1 ≤ most * (folding.kind_count - kept_count kept) = mul-le-mul_left most (let some : 1 ≤ folding.kind_count - kept_count kept = omega (arith, low) in some) in
+    let low = cached_count-below kept kind folding.kind_count few within none in
+    let one : most * 1 ≤ most * (folding.kind_count - cached_count kept) = mul-le-mul_left most (let some : 1 ≤ folding.kind_count - cached_count kept = omega (arith, low) in some) in
     omega (arith, steps, one)
 
 -- and no more when it is kept
 pub pair-counted : (lists : EstateLists) (folding : Folding) (old new kind : ℕ) (kept kept' : List (Option (List CachedConns))) → kind < folding.kind_count → length kept ≤ folding.kind_count →
-    kept_at kept kind ≡ None → kept_count kept' ≡ kept_count kept + 1 → new ≤ old + 4 * most_rules lists folding →
-    new + 4 * most_rules lists folding * (folding.kind_count - kept_count kept') ≤ old + 4 * most_rules lists folding * (folding.kind_count - kept_count kept)
+    cached_at kept kind ≡ None → cached_count kept' ≡ cached_count kept + 1 → new ≤ old + 4 * most_rules lists folding →
+    new + 4 * most_rules lists folding * (folding.kind_count - cached_count kept') ≤ old + 4 * most_rules lists folding * (folding.kind_count - cached_count kept)
 pair-counted lists folding old new kind kept kept' within few none more steps =
     let most = 4 * most_rules lists folding in
-    let low = kept_count-below kept kind folding.kind_count few within none in
-    let left : folding.kind_count - kept_count kept ≡ folding.kind_count - kept_count kept' + 1 = omega (arith, low, more) in
-    let is : most * (folding.kind_count - kept_count kept) ≡ most * (folding.kind_count - kept_count kept') + most =
-    ap (λ (n : ℕ). most * n) left ∙ (let same : most * (folding.kind_count - kept_count kept' + 1) ≡ most * (folding.kind_count - kept_count kept') + most = omega arith in same) in
+    let low = cached_count-below kept kind folding.kind_count few within none in
+    let left : folding.kind_count - cached_count kept ≡ folding.kind_count - cached_count kept' + 1 = omega (arith, low, more) in
+    let is : most * (folding.kind_count - cached_count kept) ≡ most * (folding.kind_count - cached_count kept') + most =
+    ap (λ (n : ℕ). most * n) left ∙ (let same : most * (folding.kind_count - cached_count kept' + 1) ≡ most * (folding.kind_count - cached_count kept') + most = omega arith in same) in
     omega (arith, steps, is)
 
 -- ---- places
 
 -- for the next place of the same source the same is kept
-pub IsKept-same_source : (lists : EstateLists) (folding : Folding) (place : ℕ) (kept : List (Option (List CachedConns))) → place < length folding.workloads * length folding.workloads →
-    place % length folding.workloads + 1 ≢ length folding.workloads → IsKept lists folding (place / length folding.workloads) kept → IsKept lists folding ((place + 1) / length folding.workloads) kept
-IsKept-same_source lists folding place kept below more is =
-    let P : ℕ → Type 0 = λ source. IsKept lists folding source kept in
+pub IsCached-same_source : (lists : EstateLists) (folding : Folding) (place : ℕ) (kept : List (Option (List CachedConns))) → place < length folding.workloads * length folding.workloads →
+    place % length folding.workloads + 1 ≢ length folding.workloads → IsCached lists folding (place / length folding.workloads) kept → IsCached lists folding ((place + 1) / length folding.workloads) kept
+IsCached-same_source lists folding place kept below more is =
+    let P : ℕ → Type 0 = λ source. IsCached lists folding source kept in
     subst P (sym (same_source (length folding.workloads) place below more)) is
 
 -- and behind the pairs there is no source
-pub IsKept-behind : (lists : EstateLists) (folding : Folding) (place : ℕ) (kept : List (Option (List CachedConns))) → length folding.workloads * length folding.workloads ≤ place →
-    IsKept lists folding (place / length folding.workloads) kept
-unfolding IsKept
-IsKept-behind lists folding place kept up destination conns near far alone is = absurd (source-behind (length folding.workloads) place up near)
+pub IsCached-behind : (lists : EstateLists) (folding : Folding) (place : ℕ) (kept : List (Option (List CachedConns))) → length folding.workloads * length folding.workloads ≤ place →
+    IsCached lists folding (place / length folding.workloads) kept
+unfolding IsCached
+IsCached-behind lists folding place kept up destination conns near far alone is = absurd (source-behind (length folding.workloads) place up near)
 
 -- for a later place of the same source the same is kept
-pub IsKept-over : (lists : EstateLists) (folding : Folding) (place later : ℕ) (kept : List (Option (List CachedConns))) → IsOfSameSource (length folding.workloads) place later →
-    IsKept lists folding (place / length folding.workloads) kept → IsKept lists folding (later / length folding.workloads) kept
-IsKept-over lists folding place later kept same is =
-    subst (λ (source : ℕ). IsKept lists folding source kept) (sym (over-source (length folding.workloads) place later same)) is
+pub IsCached-over : (lists : EstateLists) (folding : Folding) (place later : ℕ) (kept : List (Option (List CachedConns))) → IsOfSameSource (length folding.workloads) place later →
+    IsCached lists folding (place / length folding.workloads) kept → IsCached lists folding (later / length folding.workloads) kept
+IsCached-over lists folding place later kept same is =
+    subst (λ (source : ℕ). IsCached lists folding source kept) (sym (over-source (length folding.workloads) place later same)) is

@@ -9,8 +9,8 @@ use Rattle.np_table.specs.Table.{table_of}
 -- ---- rows and what is kept of them
 
 -- what a row has besides its ends
-abbrev pub kept_of : Row → CachedConns
-kept_of row = record { family = row.family; conns = row.conns }
+abbrev pub cached_of : Row → CachedConns
+cached_of row = record { family = row.family; conns = row.conns }
 
 -- the row of these ends that has it
 abbrev pub row_with : RowKey → CachedConns → Row
@@ -19,26 +19,26 @@ row_with key one = record { key = key; family = one.family; conns = one.conns }
 -- ---- kinds
 
 -- what is kept for a kind
-abbrev pub kept_at : List (Option (List CachedConns)) → ℕ → Option (List CachedConns)
-kept_at kept kind = option_and_then (λ found. found) (slice_get kept kind)
+abbrev pub cached_at : List (Option (List CachedConns)) → ℕ → Option (List CachedConns)
+cached_at kept kind = option_and_then (λ found. found) (slice_get kept kind)
 
 -- for how many kinds something is kept
-abbrev pub kept_count : List (Option (List CachedConns)) → ℕ
-kept_count kept = count_by (λ found. is_some found) kept
+abbrev pub cached_count : List (Option (List CachedConns)) → ℕ
+cached_count kept = count_by (λ found. is_some found) kept
 
 -- for each kind is kept what was
-pub record KeepsTheSame (old new : List (Option (List CachedConns))) : Type 0 where
-  pub all : (kind : ℕ) → kept_at new kind ≡ kept_at old kind
-  pub count : kept_count new ≡ kept_count old
+pub record CachesTheSame (old new : List (Option (List CachedConns))) : Type 0 where
+  pub all : (kind : ℕ) → cached_at new kind ≡ cached_at old kind
+  pub count : cached_count new ≡ cached_count old
 
 -- for one kind this is kept now, and for each other what was
-pub record KeepsAlso (old new : List (Option (List CachedConns))) (kind : ℕ) (conns : List CachedConns) : Type 0 where
-  pub one : kept_at new kind ≡ Some conns
-  pub others : (other : ℕ) → other ≢ kind → kept_at new other ≡ kept_at old other
+pub record CachesAlso (old new : List (Option (List CachedConns))) (kind : ℕ) (conns : List CachedConns) : Type 0 where
+  pub one : cached_at new kind ≡ Some conns
+  pub others : (other : ℕ) → other ≢ kind → cached_at new other ≡ cached_at old other
 
 -- What is kept for a kind are the rows from the source to each workload of the kind, but for their ends. A workload of
 -- one pod with itself has no rows.
-unfoldable pub IsKept : EstateLists → Folding → ℕ → List (Option (List CachedConns)) → Type 0
-IsKept lists folding source kept =
+unfoldable pub IsCached : EstateLists → Folding → ℕ → List (Option (List CachedConns)) → Type 0
+IsCached lists folding source kept =
     (destination : ℕ) (conns : List CachedConns) → source < length folding.workloads → destination < length folding.workloads → is_alone folding source destination ≡ false
-    → kept_at kept (slice_index folding.kinds destination) ≡ Some conns → map (row_with (pair_key source destination)) conns ≡ pair_rows (table_of lists folding) source destination
+    → cached_at kept (slice_index folding.kinds destination) ≡ Some conns → map (row_with (pair_key source destination)) conns ≡ pair_rows (table_of lists folding) source destination

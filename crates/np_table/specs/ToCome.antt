@@ -5,7 +5,7 @@ use Rattle.np_table.specs.Types.{CachedConns, Direction, Egress, EstateLists, In
 use Rattle.np_fold.specs.Workloads.{Folding, folding_of}
 use Rattle.np_rules.specs.model.Places.{rule_count}
 use Rattle.np_rules.specs.model.Verdict.{pod_at}
-use Rattle.np_table.specs.RowCache.{IsKept, kept_count}
+use Rattle.np_table.specs.RowCache.{IsCached, cached_count}
 use Rattle.np_table.specs.Rows.{pair_rows, rows_towards}
 use Rattle.np_table.specs.Table.{Table}
 use Rattle.np_kinds.specs.Between.{number_of_workloads, source_pod}
@@ -67,7 +67,7 @@ most_rules lists folding = greatest (map (λ workload. max (rules_of lists foldi
 
 -- what may yet be looked at for the source at hand: four times the most for each kind for which nothing is kept
 abbrev pub due_for_kinds : EstateLists → Folding → List (Option (List CachedConns)) → ℕ
-due_for_kinds lists folding kept = 4 * most_rules lists folding * (folding.kind_count - kept_count kept)
+due_for_kinds lists folding kept = 4 * most_rules lists folding * (folding.kind_count - cached_count kept)
 
 -- With so many workloads and kinds, and rules at most that speak of one: among the pairs, four times the most for each
 -- kind and each source that has not begun, the same for each kind for which nothing is kept of the source at hand, and
@@ -79,7 +79,7 @@ due_at count kinds most unkept place =
 
 -- the same at a place, where this is kept
 unfoldable pub due_from : EstateLists → Folding → ℕ → List (Option (List CachedConns)) → ℕ
-due_from lists folding place kept = due_at (length folding.workloads) folding.kind_count (most_rules lists folding) (folding.kind_count - kept_count kept) place
+due_from lists folding place kept = due_at (length folding.workloads) folding.kind_count (most_rules lists folding) (folding.kind_count - cached_count kept) place
 
 -- ---- rows under way
 
@@ -89,4 +89,4 @@ pub record IsUnderWay (lists : EstateLists) (place end : ℕ) (kept : List (Opti
   pub within : place ≤ end
   pub fits : end < 2 ^ 64
   pub few : length kept ≤ (folding_of lists).kind_count
-  pub keeps : IsKept lists (folding_of lists) (place / number_of_workloads lists) kept
+  pub keeps : IsCached lists (folding_of lists) (place / number_of_workloads lists) kept

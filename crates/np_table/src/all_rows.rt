@@ -5,7 +5,7 @@ ghost use Rattle.np_fold.specs.Workloads.{folding_of};
 ghost use Rattle.np_model.specs.declared.direction.Direction.{Direction};
 ghost use Rattle.np_kinds.specs.Between.{number_of_workloads};
 ghost use Rattle.np_kinds.specs.Kinds.{IsKindReach};
-ghost use Rattle.np_table.specs.RowCache.{IsKept};
+ghost use Rattle.np_table.specs.RowCache.{IsCached};
 ghost use Rattle.np_table.specs.Rows as table;
 ghost use Rattle.np_table.specs.Table.{estate_table};
 ghost use Rattle.np_table.specs.ToCome as spec;
@@ -194,14 +194,14 @@ fn rows_at<L: Ledger>(
     requires reach { IsKindReach sides.old.lists reach.now }
     requires place { place < spec.place_count (number_of_workloads sides.old.lists) }
     requires few { length kept.old ≤ (folding_of sides.old.lists).kind_count }
-    requires kept { IsKept sides.old.lists (folding_of sides.old.lists) (place / number_of_workloads sides.old.lists) kept.old }
+    requires kept { IsCached sides.old.lists (folding_of sides.old.lists) (place / number_of_workloads sides.old.lists) kept.old }
     ensures rows { IfOk result (λ made. made ≡ spec.rows_at (estate_table sides.old.lists) place) }
     ensures lists { sides.new.lists ≡ sides.old.lists }
     ensures few { length kept.new ≤ (folding_of sides.old.lists).kind_count }
     ensures kept { let lists = sides.old.lists in
-        OnOk result (IsKept lists (folding_of lists) ((place + 1) / number_of_workloads lists) kept.new) }
+        OnOk result (IsCached lists (folding_of lists) ((place + 1) / number_of_workloads lists) kept.new) }
     ensures kept_on_err { let lists = sides.old.lists in
-        OnErr result (IsKept lists (folding_of lists) (place / number_of_workloads lists) kept.new) }
+        OnErr result (IsCached lists (folding_of lists) (place / number_of_workloads lists) kept.new) }
     ensures counted { OnOk result (steps.new + spec.due_from sides.old.lists (folding_of sides.old.lists) (place + 1) kept.new
         ≤ steps.old + spec.due_from sides.old.lists (folding_of sides.old.lists) place kept.old) }
     ensures most { OnErr result (steps.new ≤ steps.old + spec.due_from sides.old.lists (folding_of sides.old.lists) place kept.old) }

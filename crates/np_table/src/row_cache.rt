@@ -44,7 +44,7 @@ impl RowCache {
 
     /// The rows of these ends by what is kept for a kind. `None` exactly where nothing is.
     pub fn rows(&self, alloc: Global, kind: u32, key: &RowKey) -> Result<Option<Seq<Row>>, NoMemory>
-        ensures { IfOk result (λ made. made ≡ option_map (map (spec.row_with key.now)) (spec.kept_at self.now kind)) }
+        ensures { IfOk result (λ made. made ≡ option_map (map (spec.row_with key.now)) (spec.cached_at self.now kind)) }
     {
         match self.by_kind.get(kind as usize) {
             Some(Some(conns)) => Ok(Some(rows_with(alloc, key, conns.items())?)),
@@ -63,10 +63,10 @@ impl RowCache {
         requires few { length self.old ≤ kinds }
         requires kind { kind < kinds }
         ensures few { length self.new ≤ kinds }
-        ensures also { OnOk result (spec.KeepsAlso self.old self.new kind (map spec.kept_of rows.now)) }
-        ensures count { OnOk result (spec.kept_at self.old kind ≡ None →
-            spec.kept_count self.new ≡ spec.kept_count self.old + 1) }
-        ensures err { OnErr result (spec.KeepsTheSame self.old self.new) }
+        ensures also { OnOk result (spec.CachesAlso self.old self.new kind (map spec.cached_of rows.now)) }
+        ensures count { OnOk result (spec.cached_at self.old kind ≡ None →
+            spec.cached_count self.new ≡ spec.cached_count self.old + 1) }
+        ensures err { OnErr result (spec.CachesTheSame self.old self.new) }
     {
         let conns = conns_of_rows(alloc, rows)?;
         make_places(&mut self.by_kind, kinds)?;
@@ -80,7 +80,7 @@ fn make_places(by_kind: &mut Vec<Option<Seq<CachedConns>>>, kinds: u32) -> Resul
     requires { length by_kind.old.items ≤ kinds }
     ensures few { length by_kind.new.items ≤ kinds }
     ensures all { OnOk result (length by_kind.new.items ≡ kinds) }
-    ensures same { spec.KeepsTheSame by_kind.old.items by_kind.new.items }
+    ensures same { spec.CachesTheSame by_kind.old.items by_kind.new.items }
 {
     while by_kind.len() < kinds as usize {
         by_kind.push(None)?;
@@ -105,7 +105,7 @@ fn rows_with(alloc: Global, key: &RowKey, conns: &[CachedConns]) -> Result<Seq<R
 
 // What rows have besides their ends.
 fn conns_of_rows(alloc: Global, rows: &[Row]) -> Result<Seq<CachedConns>, NoMemory>
-    ensures { IfOk result (λ made. made ≡ map spec.kept_of rows.now) }
+    ensures { IfOk result (λ made. made ≡ map spec.cached_of rows.now) }
 {
     let mut kept = Seq::new(alloc);
     for row in rows {

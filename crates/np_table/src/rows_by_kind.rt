@@ -4,7 +4,7 @@ ghost use Rattle.np_fold.specs.Workloads.{folding_of};
 ghost use Rattle.np_kinds.specs.Between as pairs;
 ghost use Rattle.np_kinds.specs.Between.{IsWorkload};
 ghost use Rattle.np_kinds.specs.Kinds.{IsKindReach};
-ghost use Rattle.np_table.specs.RowCache.{IsKept};
+ghost use Rattle.np_table.specs.RowCache.{IsCached};
 ghost use Rattle.np_table.specs.Rows as spec;
 ghost use Rattle.np_table.specs.Table.{estate_table};
 ghost use Rattle.np_table.specs.ToCome.{due_for_kinds, most_rules};
@@ -42,11 +42,11 @@ pub(crate) fn rows_by_kind<L: Ledger>(
     requires source { IsWorkload sides.old.lists pair.source }
     requires destination { IsWorkload sides.old.lists pair.destination }
     requires few { length kept.old ≤ (folding_of sides.old.lists).kind_count }
-    requires kept { IsKept sides.old.lists (folding_of sides.old.lists) pair.source kept.old }
+    requires kept { IsCached sides.old.lists (folding_of sides.old.lists) pair.source kept.old }
     ensures rows { IfOk result (λ made. made ≡ spec.pair_rows (estate_table sides.old.lists) pair.source pair.destination) }
     ensures lists { sides.new.lists ≡ sides.old.lists }
     ensures few { length kept.new ≤ (folding_of sides.old.lists).kind_count }
-    ensures kept { IsKept sides.old.lists (folding_of sides.old.lists) pair.source kept.new }
+    ensures kept { IsCached sides.old.lists (folding_of sides.old.lists) pair.source kept.new }
     ensures least { steps.old ≤ steps.new }
     ensures counted { OnOk result (steps.new + due_for_kinds sides.old.lists (folding_of sides.old.lists) kept.new
         ≤ steps.old + due_for_kinds sides.old.lists (folding_of sides.old.lists) kept.old) }

@@ -22,7 +22,7 @@ use Rattle.np_unused.specs.steps.Known.{is_known}
 use Rattle.np_unused.specs.steps.Search.{AllAreUsed, AreUsed, Finds, IsSound, Knows, KnowsPods, KnowsSide, KnowsSides, PodsAreUsed, ref_of}
 use Rattle.np_rules.proofs.AddressLemmas.{place_parts}
 use Rattle.np_rules.specs.model.Ends.{address, pod}
-use Rattle.np_rules.specs.EveryAddress.{AddressSpot, address_of, is_place, spot_of}
+use Rattle.np_rules.specs.EveryAddress.{AddressSpot, address_of, is_address_spot, spot_of}
 use Rattle.np_rules.specs.PodSides.{side_of, with_addresses}
 use Rattle.np_rules.specs.model.Verdict.{pod_at}
 use Rattle.np_sets.specs.Space.{is_between}
@@ -38,7 +38,7 @@ one_gives x y (suc k) below is = absurd (omega arith)
 
 module _ (lists : EstateLists) (lawful : IsLawful lists) (kinds : List KindPod) (are : AreKindPods lists kinds) (direction : Direction) where
   -- what decides between a pod of the estate and an address is used
-  pub addresses_listed : (near : ℕ) (one : KindPod) → slice_get kinds near ≡ Some one → AllAreUsed is_place (side_of lists one.pod direction) with_addresses
+  pub addresses_listed : (near : ℕ) (one : KindPod) → slice_get kinds near ≡ Some one → AllAreUsed is_address_spot (side_of lists one.pod direction) with_addresses
   unfolding AreUsed
   addresses_listed near one at place inside tier policy number valid stands =
       let parts = place_parts place inside in
@@ -84,7 +84,7 @@ module _ (lists : EstateLists) (lawful : IsLawful lists) (kinds : List KindPod) 
 
   -- ---- what is used is found
 
-  place_of : (a : Address) → IsAddress a → (spot : PortSpot) → is_spot spot ≡ true → (place : AddressSpot) × (is_place place ≡ true) × (address_of place ≡ a) × (spot_of place ≡ spot)
+  place_of : (a : Address) → IsAddress a → (spot : PortSpot) → is_spot spot ≡ true → (place : AddressSpot) × (is_address_spot place ≡ true) × (address_of place ≡ a) × (spot_of place ≡ spot)
   place_of (Four n) below spot inside = (First (record { point = n; spot = spot }), and_from _ _ (between n (2 ^ 32 - 1) (omega arith)) inside, refl, refl)
     where
       between : (m last : ℕ) → m < last + 1 → is_between 0 last m ≡ true

@@ -8,7 +8,7 @@ use Rattle.np_unused.proofs.SearchLemmas.{knows_side}
 use Rattle.np_unused.specs.steps.Known.{all_known, is_known}
 use Rattle.np_unused.specs.steps.Search.{AreRulesOf, Grows, IsSound, Knows, KnowsAll, KnowsFar, KnowsKind, KnowsPods, KnowsSide, Searched}
 use Rattle.np_rules.specs.model.Ends.{Contact}
-use Rattle.np_rules.specs.EveryAddress.{is_place}
+use Rattle.np_rules.specs.EveryAddress.{is_address_spot}
 use Rattle.np_rules.specs.PodSides.{PodSide, side_of, with_addresses, with_pod}
 
 -- ---- one step after another
@@ -62,7 +62,7 @@ pub knows_kind_grows : (lists : EstateLists) (direction : Direction) (kinds : Li
     KnowsKind lists direction kinds near new
 knows_kind_grows lists direction kinds near old new grows knows one at =
     let side = side_of lists one.pod direction in record {
-      addresses = knows_all_grows is_place side with_addresses old new grows (knows one at).addresses;
+      addresses = knows_all_grows is_address_spot side with_addresses old new grows (knows one at).addresses;
       pods = λ family of_family. knows_pods_grows side kinds near family old new grows ((knows one at).pods family of_family);
     }
 

@@ -7,7 +7,7 @@ ghost use Rattle.np_unused.specs.steps.Search.{AreKinds, Finds, IsSearch, KnowsA
 ghost use Rattle.np_unused.specs.steps.Search.{KnowsFar, KnowsKind, KnowsPods, KnowsSide, Searched, may_tell};
 ghost use Rattle.np_model.specs.Families.{families_of};
 ghost use Rattle.np_reach.specs.Reach.{reach_of};
-ghost use Rattle.np_rules.specs.EveryAddress.{is_place};
+ghost use Rattle.np_rules.specs.EveryAddress.{is_address_spot};
 ghost use Rattle.np_rules.specs.PodSides.{with_addresses};
 ghost use Rattle.np_kinds.specs.Kinds.{first_ends};
 
@@ -135,7 +135,7 @@ fn search_addresses<L: Ledger>(
 ) -> Result<(), NoMemory>
     requires { IsSearch search.now }
     ensures searched { OnOk result (Searched search.now.side.now.lists search.now.side.now.direction
-        (KnowsAll is_place search.now.side.now with_addresses) used.old used.new) }
+        (KnowsAll is_address_spot search.now.side.now with_addresses) used.old used.new) }
     ensures least { steps.old ≤ steps.new }
 {
     let layer = search.side.address_layer(search.kinds.alloc, steps)?;

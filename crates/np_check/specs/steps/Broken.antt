@@ -3,7 +3,7 @@ use Rattle.std.specs.Prelude.{ℕ, List, [], ◌∷◌, Bool, Option, None, Some
 use Rattle.np_addr.specs.Addresses.{family_of}
 use Rattle.np_addr.specs.Blocks.{AddressRanges}
 use Rattle.np_check.specs.Types.{Address, Broken, Counterexample, Family, Four, PortSpot, Range, Six, Wanted}
-use Rattle.np_check.specs.Counters.{addresses_of, breaks, number_of_address}
+use Rattle.np_check.specs.Counterexamples.{addresses_of, breaks, number_of_address}
 use Rattle.np_check.specs.Firsts.{first_of, first_spot}
 use Rattle.np_check.specs.Order.{comes_before}
 use Rattle.np_conns.specs.Conns.{Conns, has_spot}
@@ -52,9 +52,9 @@ broken_in wanted conns block row = with_spot (first_within block row.span) (firs
 
 -- of two packets the one whose source comes first, and the first of the two where they have one source
 abbrev pub earlier_of : Counterexample → Counterexample → Counterexample
-earlier_of kept counter = if comes_before counter.source kept.source then counter else kept
+earlier_of kept counterexample = if comes_before counterexample.source kept.source then counterexample else kept
 
 abbrev pub earlier : Option Counterexample → Option Counterexample → Option Counterexample
 earlier first None = first
-earlier None (Some counter) = Some counter
-earlier (Some kept) (Some counter) = Some (earlier_of kept counter)
+earlier None (Some counterexample) = Some counterexample
+earlier (Some kept) (Some counterexample) = Some (earlier_of kept counterexample)

@@ -1,7 +1,7 @@
 -- Kinds of workloads between which nothing breaks a statement.
 use Rattle.std.specs.Prelude.{◌≡◌, ◌&&◌, ◌==◌, ℕ, List, Bool, true, false, None, slice_index}
 use Rattle.std.specs.List.{list_any}
-use Rattle.np_check.specs.Counters.{counter_between}
+use Rattle.np_check.specs.Counterexamples.{counterexample_between}
 use Rattle.np_check.specs.Types.{Allow, Deny, EstateLists, Wanted, Work}
 use Rattle.np_conns.specs.Conns.{Conns}
 use Rattle.np_fold.specs.Workloads.{folding_of}
@@ -23,4 +23,4 @@ has_pair pairs a b = list_any (λ pair. (a == pair.0) && (b == pair.1)) pairs
 abbrev pub AreSettled : EstateLists → Wanted → Conns → List (ℕ × ℕ) → Type 0
 AreSettled lists wanted conns pairs =
     (a b : ℕ) → IsWorkload lists a → IsWorkload lists b → has_pair pairs (kind_of lists a) (kind_of lists b) ≡ true →
-    counter_between lists wanted conns (Work a) (Work b) ≡ None
+    counterexample_between lists wanted conns (Work a) (Work b) ≡ None

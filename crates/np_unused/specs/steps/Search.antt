@@ -13,7 +13,7 @@ use Rattle.np_unused.specs.steps.Known.{are_known, is_known}
 use Rattle.np_reach.specs.Reach.{may_at, may_reach, reach_of}
 use Rattle.np_rules.specs.Deciders.{decider}
 use Rattle.np_rules.specs.model.Ends.{Contact, pod}
-use Rattle.np_rules.specs.EveryAddress.{is_place}
+use Rattle.np_rules.specs.EveryAddress.{is_address_spot}
 use Rattle.np_rules.specs.LayerRules.{NamesAdmin, NamesBase, NamesNet}
 use Rattle.np_rules.specs.Layers.{Pairwise}
 use Rattle.np_rules.specs.PodSides.{PodSide, near_pod, side_of, with_addresses, with_pod}
@@ -84,7 +84,7 @@ KnowsFamilies side kinds near used = (family : Family) → Contains (families_of
 
 -- and with all addresses
 pub record KnowsSide (side : PodSide) (kinds : List KindPod) (near : ℕ) (used : UsedRules) : Type 0 where
-  pub addresses : KnowsAll is_place side with_addresses used
+  pub addresses : KnowsAll is_address_spot side with_addresses used
   pub pods : KnowsFamilies side kinds near used
 
 -- so it is for the side of the pod that stands for a kind
@@ -109,7 +109,7 @@ pub record IsSearchOf (estate : EstateLists) (side : PodSide) (pods : List KindP
   pub lawful : IsLawful side.lists
   pub kinds : AreKindPods side.lists pods
   pub rules : AreRulesOf side ids
-  pub addresses : AllAreUsed is_place side with_addresses
+  pub addresses : AllAreUsed is_address_spot side with_addresses
   pub families : (family : Family) → Contains (families_of side.lists.pods) family → PodsAreUsed side pods near family
   pub reach : (kind : ℕ) (far : KindPod) → slice_get pods kind ≡ Some far → may_at marks near kind ≡ may_reach side.lists side.direction (near_pod side) (pod (pod_at side.lists far.pod))
 

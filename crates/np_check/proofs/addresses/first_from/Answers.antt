@@ -1,22 +1,22 @@
 use Rattle.std.proofs.Common.{Some, sym, ap, ◌∙◌, option_map}
 use Rattle.np_check.specs.Types.{At, Family, Ingress, Work}
-use Rattle.np_check.proofs.AddressLemmas.{all_to, counter_to, table_rows}
-use Rattle.np_check.specs.Counters.{counter_at}
+use Rattle.np_check.proofs.AddressLemmas.{all_to, counterexample_to, table_rows}
+use Rattle.np_check.specs.Counterexamples.{counterexample_at}
 use Rattle.np_fold.specs.Workloads.{folding_of}
 use Rattle.np_kinds.specs.Between.{address_allows}
 use Rattle.np_check.proofs.addresses.first_from.Goals as goal
 
-pub returns-in_default-clause-counter : goal.returns-in_default-clause-counter
-returns-in_default-clause-counter c =
+pub returns-in_default-clause-counterexample : goal.returns-in_default-clause-counterexample
+returns-in_default-clause-counterexample c =
     let rows = c.items.ensures ∙ c.in_ok-rows.ensures.rows ∙ table_rows c.args.checker.now c.args.destination Ingress in
     let found = c.in_ok-broken.ensures (address_allows c.args.checker.now (folding_of c.args.checker.now) c.args.destination Ingress) rows in
-    ap (option_map (counter_to c.args.destination)) (sym c.in_default.is)
+    ap (option_map (counterexample_to c.args.destination)) (sym c.in_default.is)
     ∙ all_to c.args.checker.now c.args.asked.now.wanted c.args.asked.now.conns.now c.args.destination c.args.block.now c.in_ok-broken.field-0 found
 
-pub returns-clause-counter : goal.returns-clause-counter
-returns-clause-counter c =
+pub returns-clause-counterexample : goal.returns-clause-counterexample
+returns-clause-counterexample c =
     let rows = c.items.ensures ∙ c.in_ok-rows.ensures.rows ∙ table_rows c.args.checker.now c.args.destination Ingress in
     let found = c.in_ok-broken.ensures (address_allows c.args.checker.now (folding_of c.args.checker.now) c.args.destination Ingress) rows in
-    ap (λ (family : Family). Some (counter_at (At c.in-Some.broken.address) (Work c.args.destination) family c.in-Some.broken.spot)) c.family_of.ensures
-    ∙ ap (option_map (counter_to c.args.destination)) (sym c.in-Some.is)
+    ap (λ (family : Family). Some (counterexample_at (At c.in-Some.broken.address) (Work c.args.destination) family c.in-Some.broken.spot)) c.family_of.ensures
+    ∙ ap (option_map (counterexample_to c.args.destination)) (sym c.in-Some.is)
     ∙ all_to c.args.checker.now c.args.asked.now.wanted c.args.asked.now.conns.now c.args.destination c.args.block.now c.in_ok-broken.field-0 found

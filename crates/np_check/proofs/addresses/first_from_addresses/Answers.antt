@@ -4,13 +4,13 @@ use Rattle.np_kinds.specs.Between.{IsWorkload}
 use Rattle.std.proofs.lemmas.List.{take_all}
 use Rattle.np_check.proofs.AddressLemmas.{no_works, one_work_more}
 use Rattle.np_check.proofs.NoneLemmas.{none_of}
-use Rattle.np_check.specs.Counters.{addresses_of, counter_between}
+use Rattle.np_check.specs.Counterexamples.{addresses_of, counterexample_between}
 use Rattle.np_check.specs.Firsts.{first_of}
 use Rattle.np_check.proofs.addresses.first_from_addresses.Goals as goal
 
-pub returns-then-is_empty-clause-counter : goal.returns-then-is_empty-clause-counter
-returns-then-is_empty-clause-counter c =
-    none_of c.args.block.now (λ address. first_of (λ (work : ℕ). counter_between c.args.checker.now c.args.asked.now.wanted c.args.asked.now.conns.now (At address) (Work work))
+pub returns-then-is_empty-clause-counterexample : goal.returns-then-is_empty-clause-counterexample
+returns-then-is_empty-clause-counterexample c =
+    none_of c.args.block.now (λ address. first_of (λ (work : ℕ). counterexample_between c.args.checker.now c.args.asked.now.wanted c.args.asked.now.conns.now (At address) (Work work))
     c.args.destinations.now) (λ n. c.if-is_empty.ensures.answer (First n)) (λ n. c.if-is_empty.ensures.answer (Second n))
 
 pub loop-destination-init : goal.loop-destination-init
@@ -29,9 +29,9 @@ returns-in_err-found-clause-same c = c.first_from.ensures.same ∙ c.loop-destin
 
 pub loop-destination-preserved : goal.loop-destination-preserved
 loop-destination-preserved c =
-    let first_to = λ (lists : EstateLists). first_of (λ address. counter_between lists c.args.asked.now.wanted c.args.asked.now.conns.now (At address)
+    let first_to = λ (lists : EstateLists). first_of (λ address. counterexample_between lists c.args.asked.now.wanted c.args.asked.now.conns.now (At address)
     (Work (get_or c.args.destinations.now c.loop-destination.destination-index 0))) (addresses_of c.args.block.now) in
-    let found = c.in_ok-found.ensures.counter ∙ ap first_to c.loop-destination.invariant.same in
+    let found = c.in_ok-found.ensures.counterexample ∙ ap first_to c.loop-destination.invariant.same in
     record {
       first = c.earlier-first.ensures
           ∙ one_work_more c.args.checker.now c.args.asked.now.wanted c.args.asked.now.conns.now c.args.block.now c.args.destinations.now
@@ -39,11 +39,11 @@ loop-destination-preserved c =
       same = c.in_ok-found.ensures.same ∙ c.loop-destination.invariant.same;
     }
 
-pub returns-clause-counter : goal.returns-clause-counter
-returns-clause-counter c =
+pub returns-clause-counterexample : goal.returns-clause-counterexample
+returns-clause-counterexample c =
     c.loop-destination.invariant.first
     ∙ ap (λ (works : List ℕ). first_of (λ (address : Address). first_of
-    (λ (work : ℕ). counter_between c.args.checker.now c.args.asked.now.wanted c.args.asked.now.conns.now (At address) (Work work)) works) (addresses_of c.args.block.now))
+    (λ (work : ℕ). counterexample_between c.args.checker.now c.args.asked.now.wanted c.args.asked.now.conns.now (At address) (Work work)) works) (addresses_of c.args.block.now))
     (take_all c.loop-destination.destination-index c.args.destinations.now c.loop-destination-test.false)
 
 pub returns-clause-same : goal.returns-clause-same

@@ -1,5 +1,5 @@
 use Rattle.std.proofs.Common.{◌≡◌, take}
-use Rattle.np_check.specs.Counters.{addresses_of, counter_between}
+use Rattle.np_check.specs.Counterexamples.{addresses_of, counterexample_between}
 use Rattle.np_check.specs.Firsts.{first_of}
 use Rattle.np_check.specs.Types.{At, Work}
 use Rattle.np_check.proofs.addresses.first_from_addresses.Given as goal
@@ -7,7 +7,7 @@ use Rattle.np_check.proofs.addresses.first_from_addresses.Given as goal
 -- what is kept is the first to the workloads so far
 abbrev pub invariant-loop-destination : goal.invariant-loop-destination
 invariant-loop-destination l = record {
-  first : l.first ≡ first_of (λ address. first_of (λ destination. counter_between l.initial.checker l.asked.wanted l.asked.conns.now (At address) (Work destination))
+  first : l.first ≡ first_of (λ address. first_of (λ destination. counterexample_between l.initial.checker l.asked.wanted l.asked.conns.now (At address) (Work destination))
       (take l.destination-index l.destinations)) (addresses_of l.block);
   same : l.checker ≡ l.initial.checker;
 }

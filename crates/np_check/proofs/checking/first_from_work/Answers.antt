@@ -2,30 +2,30 @@ use Rattle.std.proofs.Common.{◌≡◌, Option, sym, ap, ◌∙◌}
 use Rattle.std.specs.Option.{option_or}
 use Rattle.std.proofs.lemmas.Result.{IfOk-weaker}
 use Rattle.np_check.proofs.PairLemmas.{from-work, none_or, some_or}
-use Rattle.np_check.specs.Counters.{addresses_of, counter_between, counter_from}
+use Rattle.np_check.specs.Counterexamples.{addresses_of, counterexample_between, counterexample_from}
 use Rattle.np_check.specs.Firsts.{first_of}
 use Rattle.np_check.specs.Types.{At, Counterexample, EstateLists, Work}
 use Rattle.np_check.proofs.checking.first_from_work.Goals as goal
 
-pub returns-then-is_some-clause-counter : goal.returns-then-is_some-clause-counter
-returns-then-is_some-clause-counter c =
-    let to_works = c.in_ok-found.ensures.counter
-    ∙ ap (first_of (λ destination. counter_between c.args.checker.now c.args.asked.now.wanted c.args.asked.now.conns.now (Work c.args.source) (Work destination))) c.items-destinations.ensures in
-    let rest = first_of (λ address. counter_between c.args.checker.now c.args.asked.now.wanted c.args.asked.now.conns.now (Work c.args.source) (At address)) (addresses_of c.args.ends.now.block) in
+pub returns-then-is_some-clause-counterexample : goal.returns-then-is_some-clause-counterexample
+returns-then-is_some-clause-counterexample c =
+    let to_works = c.in_ok-found.ensures.counterexample
+    ∙ ap (first_of (λ destination. counterexample_between c.args.checker.now c.args.asked.now.wanted c.args.asked.now.conns.now (Work c.args.source) (Work destination))) c.items-destinations.ensures in
+    let rest = first_of (λ address. counterexample_between c.args.checker.now c.args.asked.now.wanted c.args.asked.now.conns.now (Work c.args.source) (At address)) (addresses_of c.args.ends.now.block) in
     some_or c.in_ok-found.found rest (sym c.is_some.ensures ∙ c.if-is_some.true)
     ∙ ap (λ (first : Option Counterexample). option_or first rest) to_works
     ∙ sym (from-work c.args.checker.now c.args.asked.now.wanted c.args.asked.now.conns.now c.args.ends.now c.args.source)
 
-pub returns-clause-counter : goal.returns-clause-counter
-returns-clause-counter c =
-    let to_works = c.in_ok-found.ensures.counter
-    ∙ ap (first_of (λ destination. counter_between c.args.checker.now c.args.asked.now.wanted c.args.asked.now.conns.now (Work c.args.source) (Work destination))) c.items-destinations.ensures in
-    let to_addresses = λ (lists : EstateLists). first_of (λ address. counter_between lists c.args.asked.now.wanted c.args.asked.now.conns.now (Work c.args.source) (At address))
+pub returns-clause-counterexample : goal.returns-clause-counterexample
+returns-clause-counterexample c =
+    let to_works = c.in_ok-found.ensures.counterexample
+    ∙ ap (first_of (λ destination. counterexample_between c.args.checker.now c.args.asked.now.wanted c.args.asked.now.conns.now (Work c.args.source) (Work destination))) c.items-destinations.ensures in
+    let to_addresses = λ (lists : EstateLists). first_of (λ address. counterexample_between lists c.args.asked.now.wanted c.args.asked.now.conns.now (Work c.args.source) (At address))
     (addresses_of c.args.ends.now.block) in
     let rest = to_addresses c.args.checker.now in
     let all = none_or c.in_ok-found.found rest (sym c.is_some.ensures ∙ c.if-is_some.false)
     ∙ ap (λ (first : Option Counterexample). option_or first rest) to_works
     ∙ sym (from-work c.args.checker.now c.args.asked.now.wanted c.args.asked.now.conns.now c.args.ends.now c.args.source) in
     IfOk-weaker c.first_to_addresses.result (λ (made : Option Counterexample). made ≡ to_addresses c.first_to_works.new.checker)
-    (λ (made : Option Counterexample). made ≡ counter_from c.args.checker.now c.args.asked.now.wanted c.args.asked.now.conns.now c.args.ends.now (Work c.args.source)) (λ made is. is
-    ∙ ap to_addresses c.in_ok-found.ensures.same ∙ all) c.first_to_addresses.ensures.counter
+    (λ (made : Option Counterexample). made ≡ counterexample_from c.args.checker.now c.args.asked.now.wanted c.args.asked.now.conns.now c.args.ends.now (Work c.args.source)) (λ made is. is
+    ∙ ap to_addresses c.in_ok-found.ensures.same ∙ all) c.first_to_addresses.ensures.counterexample

@@ -1,5 +1,5 @@
 use Rattle.std.proofs.Common.{◌≡◌, drop}
-use Rattle.np_check.specs.Counters.{counter_from}
+use Rattle.np_check.specs.Counterexamples.{counterexample_from}
 use Rattle.np_check.specs.Firsts.{first_of}
 use Rattle.np_check.specs.steps.Pairs.{AreSettled}
 use Rattle.np_check.specs.Types.{Work}
@@ -8,8 +8,8 @@ use Rattle.np_check.proofs.checking.first_from_works.Given as goal
 -- the first from those that are left is the first from all
 abbrev pub invariant-loop-source : goal.invariant-loop-source
 invariant-loop-source l = record {
-  left : first_of (λ source. counter_from l.initial.checker l.asked.wanted l.asked.conns.now l.ends (Work source)) (drop l.source-index l.sources)
-      ≡ first_of (λ source. counter_from l.initial.checker l.asked.wanted l.asked.conns.now l.ends (Work source)) l.sources;
+  left : first_of (λ source. counterexample_from l.initial.checker l.asked.wanted l.asked.conns.now l.ends (Work source)) (drop l.source-index l.sources)
+      ≡ first_of (λ source. counterexample_from l.initial.checker l.asked.wanted l.asked.conns.now l.ends (Work source)) l.sources;
   same : l.checker ≡ l.initial.checker;
   settled : AreSettled l.checker l.asked.wanted l.asked.conns.now l.settled.keys;
 }

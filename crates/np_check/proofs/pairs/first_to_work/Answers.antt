@@ -1,6 +1,6 @@
 use Rattle.std.proofs.Common.{◌≡◌, ◌==◌, ◌&&◌, if◌then◌else◌, ℕ, true, refl, sym, ap, subst, ◌∙◌, slice_index}
 use Rattle.np_check.proofs.PairLemmas.{none_denied, none_of_is, settled-more}
-use Rattle.np_check.specs.Counters.{counter_between}
+use Rattle.np_check.specs.Counterexamples.{counterexample_between}
 use Rattle.np_check.specs.steps.Pairs.{has_pair, kind_of}
 use Rattle.np_check.specs.Types.{Work}
 use Rattle.np_model.specs.Lawful.{IsLawful}
@@ -19,8 +19,8 @@ kind_of-requires-2 c =
     let folding : c.workloads-workloads.result.now ≡ folding_of c.args.checker.now = c.workloads-workloads.ensures.value ∙ ap folding_of c.folded.ensures in
     rw folding (kind-there c.args.checker.now (folding_of c.args.checker.now) c.args.destination refl c.requires.destination)
 
-pub returns-then-contains-clause-counter : goal.returns-then-contains-clause-counter
-returns-then-contains-clause-counter c =
+pub returns-then-contains-clause-counterexample : goal.returns-then-contains-clause-counterexample
+returns-then-contains-clause-counterexample c =
     let folding : c.workloads-workloads.result.now ≡ folding_of c.args.checker.now = c.workloads-workloads.ensures.value ∙ ap folding_of c.folded.ensures in
     let sends : c.kind_of.result ≡ kind_of c.args.checker.now c.args.source = c.kind_of.ensures ∙ ap (λ (f : Folding). slice_index f.kinds c.args.source) folding in
     let receives : c.kind_of-2.result ≡ kind_of c.args.checker.now c.args.destination = c.kind_of-2.ensures ∙ ap (λ (f : Folding). slice_index f.kinds c.args.destination) folding in
@@ -37,8 +37,8 @@ returns-clause-settled c =
     let receives : c.kind_of-2.result ≡ kind_of c.args.checker.now c.args.destination = c.kind_of-2.ensures ∙ ap (λ (f : Folding). slice_index f.kinds c.args.destination) folding in
     elim c.if-is_none.branch [
       | then-is_none+then-source-destination+in_ok-insert w ↦
-          let none = none_of_is c.in_ok-found.found (counter_between c.args.checker.now c.args.asked.now.wanted c.args.asked.now.conns.now (Work c.args.source)
-          (Work c.args.destination)) c.is_none.result c.is_none.ensures w.if-is_none.true c.in_ok-found.ensures.counter in
+          let none = none_of_is c.in_ok-found.found (counterexample_between c.args.checker.now c.args.asked.now.wanted c.args.asked.now.conns.now (Work c.args.source)
+          (Work c.args.destination)) c.is_none.result c.is_none.ensures w.if-is_none.true c.in_ok-found.ensures.counterexample in
           let has : (i j : ℕ) → has_pair w.insert.new.self.keys i j ≡ (if (kind_of c.args.checker.now c.args.source == i)
           && (kind_of c.args.checker.now c.args.destination == j) then true else has_pair c.args.settled.now.keys i j) = λ i j.
           w.in_ok-insert.ensures.updates.0 (i, j)
@@ -50,7 +50,7 @@ returns-clause-settled c =
       | else-is_none w ↦ rw (w.settled-is, c.in_ok-found.ensures.same) c.requires.settled
     ]
 
-pub returns-then-is_silent-clause-counter : goal.returns-then-is_silent-clause-counter
-returns-then-is_silent-clause-counter c =
+pub returns-then-is_silent-clause-counterexample : goal.returns-then-is_silent-clause-counterexample
+returns-then-is_silent-clause-counterexample c =
     none_denied c.args.checker.now c.args.asked.now.wanted c.args.asked.now.conns.now c.args.source c.args.destination
     (sym c.denies-denied.ensures ∙ c.if-denied.true) (c.is_silent.ensures c.if-is_silent.true)

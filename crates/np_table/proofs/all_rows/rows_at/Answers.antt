@@ -1,13 +1,13 @@
 use Rattle.std.proofs.Common.{◌≡◌, ◌≢◌, ◌<◌, ◌≤◌, ◌+◌, ◌*◌, ◌/◌, ◌%◌, ℕ, length, arith, ap, sym, subst, ◌∙◌}
 use Rattle.std.proofs.lemmas.Result.{IfOk-weaker}
 use Rattle.np_table.proofs.DueLemmas.{due_from-address, due_from-next_source, due_from-pair, due_from-same_source}
-use Rattle.np_table.proofs.KindLemmas.{IsKept-behind, IsKept-nothing, IsKept-same_source}
+use Rattle.np_table.proofs.KindLemmas.{IsCached-behind, IsCached-nothing, IsCached-same_source}
 use Rattle.np_table.proofs.PlaceLemmas.{rows_at-address, rows_at-pair}
 use Rattle.np_table.proofs.SetLemmas.{OnErr-from, OnOk-from}
 use Rattle.np_table.proofs.all_rows.rows_at.Goals as goal
 use Rattle.np_table.proofs.all_rows.rows_at.Goals.{else-place-count, then-place-count}
 use Rattle.np_fold.specs.Workloads.{Folding, folding_of}
-use Rattle.np_table.specs.RowCache.{IsKept}
+use Rattle.np_table.specs.RowCache.{IsCached}
 use Rattle.np_kinds.specs.Between.{number_of_workloads}
 
 pub returns-then-place-pairs-clause-rows : goal.returns-then-place-pairs-clause-rows
@@ -21,7 +21,7 @@ returns-then-place-pairs-clause-kept g c =
     let is : c.from-count.result ≡ number_of_workloads c.args.sides.now.lists = c.from-count.ensures ∙ c.count.ensures ∙ ap (λ (f : Folding). length f.workloads) c.workloads.ensures.value
     ∙ ap number_of_workloads c.folded.ensures in
     let up = subst (λ (n : ℕ). n * n ≤ c.args.place) is c.if-place-pairs.true in
-    OnOk-from c.address_rows_at.result _ (IsKept-behind c.args.sides.now.lists (folding_of c.args.sides.now.lists) (c.args.place + 1) c.args.kept.now (omega (arith, up)))
+    OnOk-from c.address_rows_at.result _ (IsCached-behind c.args.sides.now.lists (folding_of c.args.sides.now.lists) (c.args.place + 1) c.args.kept.now (omega (arith, up)))
 
 pub returns-then-place-pairs-clause-counted : goal.returns-then-place-pairs-clause-counted
 returns-then-place-pairs-clause-counted g c =
@@ -60,11 +60,11 @@ returns-clause-kept g c =
     ∙ ap number_of_workloads c.folded.ensures in
     let below = subst (λ (n : ℕ). c.args.place < n * n) is c.if-place-pairs.false in
     elim c.if-place-count.branch [
-      | then-place-count w ↦ rw (w.kept-is, w.nothing.ensures) (IsKept-nothing c.args.sides.now.lists (folding_of c.args.sides.now.lists) _)
+      | then-place-count w ↦ rw (w.kept-is, w.nothing.ensures) (IsCached-nothing c.args.sides.now.lists (folding_of c.args.sides.now.lists) _)
       | else-place-count w ↦
           let more = subst (λ (n : ℕ). c.args.place % n + 1 ≢ n) is w.if-place-count.false in
-          rw w.kept-is (IsKept-same_source c.args.sides.now.lists (folding_of c.args.sides.now.lists) c.args.place c.rows_by_kind.new.kept below more
-          (subst (λ (n : ℕ). IsKept c.args.sides.now.lists (folding_of c.args.sides.now.lists) (c.args.place / n) c.rows_by_kind.new.kept) is c.in_ok-rows.ensures.kept))
+          rw w.kept-is (IsCached-same_source c.args.sides.now.lists (folding_of c.args.sides.now.lists) c.args.place c.rows_by_kind.new.kept below more
+          (subst (λ (n : ℕ). IsCached c.args.sides.now.lists (folding_of c.args.sides.now.lists) (c.args.place / n) c.rows_by_kind.new.kept) is c.in_ok-rows.ensures.kept))
     ]
 
 pub returns-clause-counted : goal.returns-clause-counted

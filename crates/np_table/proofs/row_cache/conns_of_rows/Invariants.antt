@@ -1,7 +1,7 @@
 use Rattle.std.proofs.Common.{◌≡◌, map, take}
 use Rattle.np_table.proofs.row_cache.conns_of_rows.Given as goal
-use Rattle.np_table.specs.RowCache.{kept_of}
+use Rattle.np_table.specs.RowCache.{cached_of}
 
 -- what the rows so far have
 abbrev pub invariant-loop-row : goal.invariant-loop-row
-invariant-loop-row l = l.kept ≡ map kept_of (take l.row-index l.rows)
+invariant-loop-row l = l.kept ≡ map cached_of (take l.row-index l.rows)

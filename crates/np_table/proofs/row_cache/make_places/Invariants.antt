@@ -1,12 +1,12 @@
 use Rattle.std.proofs.Common.{◌≤◌, ◌-◌, length}
 use Rattle.np_table.proofs.row_cache.make_places.Given as goal
-use Rattle.np_table.specs.RowCache.{KeepsTheSame}
+use Rattle.np_table.specs.RowCache.{CachesTheSame}
 
 -- the same is kept
 abbrev pub invariant-loop-by_kind : goal.invariant-loop-by_kind
 invariant-loop-by_kind l = record {
   few : length l.by_kind.items ≤ l.kinds;
-  same : KeepsTheSame l.fn.by_kind.items l.by_kind.items;
+  same : CachesTheSame l.fn.by_kind.items l.by_kind.items;
 }
 
 abbrev pub decreases-loop-by_kind : goal.decreases-loop-by_kind

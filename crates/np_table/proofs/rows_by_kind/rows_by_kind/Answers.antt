@@ -3,11 +3,11 @@ use Rattle.np_fold.specs.Workloads.{Folding, folding_of}
 use Rattle.np_kinds.proofs.KindNumbers.{kind-there, kind-within}
 use Rattle.np_kinds.specs.Between.{is_alone}
 use Rattle.np_model.specs.Lawful.{IsLawful}
-use Rattle.np_table.proofs.KindLemmas.{IsKept-also, IsKept-same, none_kept, pair-counted, pair-due, pair_rows-alone, rows-kept}
+use Rattle.np_table.proofs.KindLemmas.{IsCached-also, IsCached-same, none_kept, pair-counted, pair-due, pair_rows-alone, rows-kept}
 use Rattle.np_table.proofs.SetLemmas.{OnErr-from}
 use Rattle.np_table.proofs.SideLemmas.{silent-rows}
 use Rattle.np_table.proofs.rows_by_kind.rows_by_kind.Goals as goal
-use Rattle.np_table.specs.RowCache.{kept_at}
+use Rattle.np_table.specs.RowCache.{cached_at}
 
 pub returns-then-is_alone-clause-rows : goal.returns-then-is_alone-clause-rows
 returns-then-is_alone-clause-rows g c =
@@ -46,7 +46,7 @@ returns-in_err-rows-2-clause-most g c =
     let folded = c.workloads-workloads.ensures.value ∙ ap folding_of c.folded-folded.ensures in
     let kind : c.kind_of-kind.result ≡ slice_index (folding_of c.args.sides.now.lists).kinds c.args.pair.destination = c.kind_of-kind.ensures ∙ ap
     (λ (f : Folding). slice_index f.kinds c.args.pair.destination) folded in
-    let none : kept_at c.args.kept.now c.kind_of-kind.result ≡ None = none_kept _ _ (sym c.in_default.is ∙ c.in_ok-rows.ensures) in
+    let none : cached_at c.args.kept.now c.kind_of-kind.result ≡ None = none_kept _ _ (sym c.in_default.is ∙ c.in_ok-rows.ensures) in
     let within : c.kind_of-kind.result < (folding_of c.args.sides.now.lists).kind_count = rw kind
     (kind-within c.args.sides.now.lists (folding_of c.args.sides.now.lists) c.args.pair.destination refl c.requires.destination) in
     OnErr-from c.from_residual-in_err-rows-2.result _ (pair-due c.args.sides.now.lists
@@ -59,14 +59,14 @@ keep-requires-clause-kind g c =
 
 pub returns-in_err-keep-clause-kept : goal.returns-in_err-keep-clause-kept
 returns-in_err-keep-clause-kept g c =
-    IsKept-same c.args.sides.now.lists (folding_of c.args.sides.now.lists) c.args.pair.source c.args.kept.now c.keep.new.self c.requires.kept c.in_err-keep.ensures.err
+    IsCached-same c.args.sides.now.lists (folding_of c.args.sides.now.lists) c.args.pair.source c.args.kept.now c.keep.new.self c.requires.kept c.in_err-keep.ensures.err
 
 pub returns-in_err-keep-clause-most : goal.returns-in_err-keep-clause-most
 returns-in_err-keep-clause-most g c =
     let folded = c.workloads-workloads.ensures.value ∙ ap folding_of c.folded-folded.ensures in
     let kind : c.kind_of-kind.result ≡ slice_index (folding_of c.args.sides.now.lists).kinds c.args.pair.destination = c.kind_of-kind.ensures ∙ ap
     (λ (f : Folding). slice_index f.kinds c.args.pair.destination) folded in
-    let none : kept_at c.args.kept.now c.kind_of-kind.result ≡ None = none_kept _ _ (sym c.in_default.is ∙ c.in_ok-rows.ensures) in
+    let none : cached_at c.args.kept.now c.kind_of-kind.result ≡ None = none_kept _ _ (sym c.in_default.is ∙ c.in_ok-rows.ensures) in
     let within : c.kind_of-kind.result < (folding_of c.args.sides.now.lists).kind_count = rw kind
     (kind-within c.args.sides.now.lists (folding_of c.args.sides.now.lists) c.args.pair.destination refl c.requires.destination) in
     OnErr-from c.from_residual-in_err-keep.result _ (pair-due c.args.sides.now.lists
@@ -79,7 +79,7 @@ returns-clause-kept g c =
     let kind : c.kind_of-kind.result ≡ slice_index (folding_of c.args.sides.now.lists).kinds c.args.pair.destination = c.kind_of-kind.ensures ∙ ap
     (λ (f : Folding). slice_index f.kinds c.args.pair.destination) folded in
     let also = rw (kind, c.items.ensures) at c.in_ok-keep.ensures.also in
-    IsKept-also c.args.sides.now.lists (folding_of c.args.sides.now.lists) c.args.pair.source c.args.pair.destination c.args.kept.now c.keep.new.self c.in_ok-rows-2.rows refl
+    IsCached-also c.args.sides.now.lists (folding_of c.args.sides.now.lists) c.args.pair.source c.args.pair.destination c.args.kept.now c.keep.new.self c.in_ok-rows-2.rows refl
     (subst IsLawful c.folded-folded.ensures c.workloads-workloads.ensures.lawful) c.requires.destination alone c.in_ok-rows-2.ensures.rows c.requires.kept also
 
 pub returns-clause-counted : goal.returns-clause-counted
@@ -87,7 +87,7 @@ returns-clause-counted g c =
     let folded = c.workloads-workloads.ensures.value ∙ ap folding_of c.folded-folded.ensures in
     let kind : c.kind_of-kind.result ≡ slice_index (folding_of c.args.sides.now.lists).kinds c.args.pair.destination = c.kind_of-kind.ensures ∙ ap
     (λ (f : Folding). slice_index f.kinds c.args.pair.destination) folded in
-    let none : kept_at c.args.kept.now c.kind_of-kind.result ≡ None = none_kept _ _ (sym c.in_default.is ∙ c.in_ok-rows.ensures) in
+    let none : cached_at c.args.kept.now c.kind_of-kind.result ≡ None = none_kept _ _ (sym c.in_default.is ∙ c.in_ok-rows.ensures) in
     let within : c.kind_of-kind.result < (folding_of c.args.sides.now.lists).kind_count = rw kind
     (kind-within c.args.sides.now.lists (folding_of c.args.sides.now.lists) c.args.pair.destination refl c.requires.destination) in
     pair-counted c.args.sides.now.lists (folding_of c.args.sides.now.lists) c.args.steps.now c.rows_of_kinds.new.steps c.kind_of-kind.result c.args.kept.now c.keep.new.self within c.requires.few none

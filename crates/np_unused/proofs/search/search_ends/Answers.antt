@@ -5,7 +5,7 @@ use Rattle.np_unused.proofs.search.search_ends.Goals as goal
 use Rattle.np_unused.specs.steps.Search.{KnowsAll, KnowsFamilies, KnowsSide}
 use Rattle.np_model.specs.Families.{families_of}
 use Rattle.np_unused.specs.Types.{EstateLists}
-use Rattle.np_rules.specs.EveryAddress.{is_place}
+use Rattle.np_rules.specs.EveryAddress.{is_address_spot}
 use Rattle.np_rules.specs.PodSides.{with_addresses}
 
 pub returns-then-has_all-clause-searched : goal.returns-then-has_all-clause-searched
@@ -27,7 +27,7 @@ returns-clause-searched g c =
     let middle = c.search_addresses.new.used in
     let new = c.search_families.new.used in
     IfOk-weaker c.search_families.result _ _
-    (λ _ later. searched_both side.lists side.direction (KnowsAll is_place side with_addresses) (KnowsFamilies side kinds near) (KnowsSide side kinds near) c.args.used.now middle new
-    (λ grows addresses pods. record { addresses = knows_all_grows is_place side with_addresses middle new grows addresses; pods = pods })
+    (λ _ later. searched_both side.lists side.direction (KnowsAll is_address_spot side with_addresses) (KnowsFamilies side kinds near) (KnowsSide side kinds near) c.args.used.now middle new
+    (λ grows addresses pods. record { addresses = knows_all_grows is_address_spot side with_addresses middle new grows addresses; pods = pods })
     c.in_ok-search_addresses.ensures.searched later)
     c.search_families.ensures.searched

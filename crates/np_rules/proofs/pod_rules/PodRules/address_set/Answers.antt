@@ -2,7 +2,7 @@ use Rattle.std.proofs.Common.{ℕ, List, map, refl, ap, ◌∙◌, arith}
 use Rattle.np_rules.specs.Types.{Beside, Layer, Piece}
 use Rattle.np_conns.specs.Conns.{Conns}
 use Rattle.np_rules.specs.model.Ends.{PodEnd, pod}
-use Rattle.np_rules.specs.EveryAddress.{address_contact, address_of, has_place, is_place}
+use Rattle.np_rules.specs.EveryAddress.{address_contact, address_of, has_address_spot, is_address_spot}
 use Rattle.np_rules.specs.PodSides.{PodSide, near_pod, with_addresses}
 use Rattle.np_rules.specs.model.Sides.{side_allows}
 use Rattle.np_rules.specs.Views.{pod_view}
@@ -18,7 +18,7 @@ returns-clause-members g c = λ place within.
     let layer : Layer (Beside (List (Piece ℕ Conns)) (List (Piece ℕ Conns))) =
     record { admin = c.in_ok-admin_parts.field-0; isolated = rules.isolated; net = c.in_ok-net_sets.field-0; base = c.in_ok-base_parts.field-0 } in
     c.in_ok-set.ensures.members place within
-    ∙ walk_of_kept has_place is_place (address_contact direction (pod (pod_view c.view_at.result))) address_of (λ spot. refl) side (map (λ rule. rule.now) rules.admin.items) rules.isolated
+    ∙ walk_of_kept has_address_spot is_address_spot (address_contact direction (pod (pod_view c.view_at.result))) address_of (λ spot. refl) side (map (λ rule. rule.now) rules.admin.items) rules.isolated
     (map (λ rule. rule.now) rules.net.items) rules.base.now c.in_ok-admin.admin.items (λ rule. rule.now) c.in_ok-net.net.items
     (λ rule. rule.now) c.view_at-near.result.namespace.now layer c.in_ok-rules.ensures (rw c.deref.ensures.value at c.in_ok-admin.ensures) (rw c.deref-2.ensures.value at c.in_ok-net.ensures)
     (ap (λ (p : PodEnd). p.namespace) c.view_at-near.ensures ∙ ap (λ (s : PodSide). (near_pod s).namespace) c.self.view_is) (rw c.deref-3.ensures.value at c.in_ok-admin_parts.ensures) refl

@@ -1,7 +1,7 @@
 use Rattle.std.proofs.Common.{length, arith, ap, ◌∙◌}
 use Rattle.np_fold.specs.Workloads.{Folding, folding_of}
 use Rattle.np_table.proofs.DueLemmas.{due_from-start}
-use Rattle.np_table.proofs.KindLemmas.{IsKept-nothing}
+use Rattle.np_table.proofs.KindLemmas.{IsCached-nothing}
 use Rattle.np_table.proofs.PlaceLemmas.{all_rows-from}
 use Rattle.np_table.proofs.all_rows.Rows.new.Goals as goal
 use Rattle.np_table.specs.Table.{estate_table}
@@ -14,7 +14,7 @@ invariant_of-result c = (
     within = omega arith;
     fits = c.place_count-end.ensures.fits;
     few = rw c.nothing-2.ensures (omega arith);
-    keeps = rw c.nothing-2.ensures (IsKept-nothing c.args.folded.now (folding_of c.args.folded.now) _);
+    keeps = rw c.nothing-2.ensures (IsCached-nothing c.args.folded.now (folding_of c.args.folded.now) _);
   }),
   c.nothing.ensures c.new.result.lists,
 )

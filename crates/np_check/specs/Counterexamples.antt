@@ -56,25 +56,25 @@ breaks wanted conns allowed spot = has_spot conns spot && not (complies wanted (
 
 -- ---- the first that breaks it
 
-abbrev pub counter_at : PlaceEnd → PlaceEnd → Family → PortSpot → Counterexample
-counter_at source destination family spot = record { source = source; destination = destination; family = family; spot = spot }
+abbrev pub counterexample_at : PlaceEnd → PlaceEnd → Family → PortSpot → Counterexample
+counterexample_at source destination family spot = record { source = source; destination = destination; family = family; spot = spot }
 
 -- between two ends in a family, by protocol and port
-abbrev pub counter_in : EstateLists → Wanted → Conns → PlaceEnd → PlaceEnd → Family → Option Counterexample
-counter_in lists wanted conns source destination family =
-    option_map (counter_at source destination family)
+abbrev pub counterexample_in : EstateLists → Wanted → Conns → PlaceEnd → PlaceEnd → Family → Option Counterexample
+counterexample_in lists wanted conns source destination family =
+    option_map (counterexample_at source destination family)
     (first_spot (breaks wanted conns (allows_between lists source destination family)))
 
 -- between two ends, by family: IPv4 before IPv6
-unfoldable pub counter_between : EstateLists → Wanted → Conns → PlaceEnd → PlaceEnd → Option Counterexample
-counter_between lists wanted conns source destination =
-    first_of (counter_in lists wanted conns source destination) (families_between lists source destination)
+unfoldable pub counterexample_between : EstateLists → Wanted → Conns → PlaceEnd → PlaceEnd → Option Counterexample
+counterexample_between lists wanted conns source destination =
+    first_of (counterexample_in lists wanted conns source destination) (families_between lists source destination)
 
 -- from an end, by destination
-unfoldable pub counter_from : EstateLists → Wanted → Conns → Ends → PlaceEnd → Option Counterexample
-counter_from lists wanted conns destinations source = first_of (counter_between lists wanted conns source) (places_of destinations)
+unfoldable pub counterexample_from : EstateLists → Wanted → Conns → Ends → PlaceEnd → Option Counterexample
+counterexample_from lists wanted conns destinations source = first_of (counterexample_between lists wanted conns source) (places_of destinations)
 
 -- of all, by source
-unfoldable pub counter_of : EstateLists → Question → Option Counterexample
-counter_of lists question =
-    first_of (counter_from lists question.wanted question.conns question.destination) (places_of question.source)
+unfoldable pub counterexample_of : EstateLists → Question → Option Counterexample
+counterexample_of lists question =
+    first_of (counterexample_from lists question.wanted question.conns question.destination) (places_of question.source)
