@@ -4,7 +4,7 @@ use Rattle.std.specs.Option.{option_or}
 use Rattle.std.proofs.lemmas.List.{take_more}
 use Rattle.np_addr.specs.Addresses.{family_of}
 use Rattle.np_addr.specs.Blocks.{AddressRanges}
-use Rattle.np_check.specs.Types.{Address, At, Broken, Counterexample, Egress, EstateLists, Family, Ingress, PlaceEnd, PortSpot, Wanted, Work}
+use Rattle.np_check.specs.Types.{Address, At, BreakingAddress, Counterexample, Egress, EstateLists, Family, Ingress, PlaceEnd, PortSpot, Wanted, Work}
 use Rattle.np_check.proofs.BrokenLemmas.{broken_by}
 use Rattle.np_check.proofs.FirstLemmas.{first_of-append, first_of-none, first_of-one, first_of-option_map, first_of-same, from_either}
 use Rattle.np_check.proofs.MergeLemmas.{addresses-ascend, merge}
@@ -30,10 +30,10 @@ map_map : {X Y Z : Type 0} (to : Y → Z) (from : X → Y) (found : Option X) �
 map_map to from None = refl
 map_map to from (Some x) = refl
 
-abbrev pub counterexample_to : ℕ → Broken → Counterexample
+abbrev pub counterexample_to : ℕ → BreakingAddress → Counterexample
 counterexample_to work broken = counterexample_at (At broken.address) (Work work) (family_of broken.address) broken.spot
 
-abbrev pub counterexample_by : ℕ → Broken → Counterexample
+abbrev pub counterexample_by : ℕ → BreakingAddress → Counterexample
 counterexample_by work broken = counterexample_at (Work work) (At broken.address) (family_of broken.address) broken.spot
 
 between_to : (lists : EstateLists) (wanted : Wanted) (conns : Conns) (work : ℕ) (address : Address) →
@@ -51,7 +51,7 @@ between_by lists wanted conns work address =
     ∙ map_map (counterexample_by work) (broken_by address) (first_spot (breaks wanted conns (address_allows lists (folding_of lists) work Egress (family_of address) (number_of_address address))))
 
 -- from addresses to a workload
-pub all_to : (lists : EstateLists) (wanted : Wanted) (conns : Conns) (work : ℕ) (block : AddressRanges) (found : Option Broken) →
+pub all_to : (lists : EstateLists) (wanted : Wanted) (conns : Conns) (work : ℕ) (block : AddressRanges) (found : Option BreakingAddress) →
     found ≡ first_broken_of wanted conns block (address_allows lists (folding_of lists) work Ingress) →
     option_map (counterexample_to work) found ≡ first_of (λ address. counterexample_between lists wanted conns (At address) (Work work)) (addresses_of block)
 unfolding first_broken_of
@@ -62,7 +62,7 @@ all_to lists wanted conns work block found is =
     (λ address. option_map (counterexample_to work) (broken_at wanted conns (address_allows lists (folding_of lists) work Ingress) address)) (addresses_of block) (between_to lists wanted conns work))
 
 -- and from a workload to addresses
-pub all_by : (lists : EstateLists) (wanted : Wanted) (conns : Conns) (work : ℕ) (block : AddressRanges) (found : Option Broken) →
+pub all_by : (lists : EstateLists) (wanted : Wanted) (conns : Conns) (work : ℕ) (block : AddressRanges) (found : Option BreakingAddress) →
     found ≡ first_broken_of wanted conns block (address_allows lists (folding_of lists) work Egress) →
     option_map (counterexample_by work) found ≡ first_of (λ address. counterexample_between lists wanted conns (Work work) (At address)) (addresses_of block)
 unfolding first_broken_of

@@ -4,7 +4,7 @@ use Rattle.std.specs.List.{find, range_with_len}
 use Rattle.std.specs.Option.{option_or}
 use Rattle.std.proofs.lemmas.Bool.{cases_Bool, cases_eq}
 use Rattle.np_addr.specs.Blocks.{AddressRanges, IsAddressSet, set_has}
-use Rattle.np_check.specs.Types.{Address, Broken, Family, Four, PortSpot, Range, Six, Wanted}
+use Rattle.np_check.specs.Types.{Address, BreakingAddress, Family, Four, PortSpot, Range, Six, Wanted}
 use Rattle.np_addr.specs.declared.address.Family.TheVariants as family
 use Rattle.np_base.specs.Ranges.{IsAscending, holds}
 use Rattle.np_check.proofs.FirstLemmas.{first_of-append, first_of-filter, first_of-map, first_of-none, none_both, range-append}
@@ -65,10 +65,10 @@ addresses_upto set address gives count =
 
 -- ---- a range
 
-abbrev broken_with : (ℕ → Address) → List (Range ℕ) → Option PortSpot → ℕ → Option Broken
+abbrev broken_with : (ℕ → Address) → List (Range ℕ) → Option PortSpot → ℕ → Option BreakingAddress
 broken_with address ranges spot n = if holds (λ a. a) ranges n then option_map (λ s. record { address = address n; spot = s }) spot else None
 
-abbrev pub broken_by : Address → PortSpot → Broken
+abbrev pub broken_by : Address → PortSpot → BreakingAddress
 broken_by address spot = record { address = address; spot = spot }
 
 none_with : (address : ℕ → Address) (n : ℕ) (here : Bool) → (if here then option_map (λ (s : PortSpot). broken_by (address n) s) None else None) ≡ None
@@ -94,10 +94,10 @@ in_range address ranges (Some spot) low (suc count) =
 
 -- ---- the right list of ranges
 
-abbrev broken_stretch : Wanted → Conns → (ℕ → Address) → List (Range ℕ) → Stretch → Option Broken
+abbrev broken_stretch : Wanted → Conns → (ℕ → Address) → List (Range ℕ) → Stretch → Option BreakingAddress
 broken_stretch wanted conns address ranges stretch = with_spot (option_map address (first_number (λ a. a) ranges stretch.lo stretch.hi)) (first_spot (breaks wanted conns (has_spot stretch.conns)))
 
-abbrev broken_number : Wanted → Conns → (ℕ → Address) → List (Range ℕ) → (ℕ → PortSpot → Bool) → ℕ → Option Broken
+abbrev broken_number : Wanted → Conns → (ℕ → Address) → List (Range ℕ) → (ℕ → PortSpot → Bool) → ℕ → Option BreakingAddress
 broken_number wanted conns address ranges passes n = broken_with address ranges (first_spot (breaks wanted conns (passes n))) n
 
 right_ordered : (passes : ℕ → PortSpot → Bool) (from to : ℕ) (before : Option Conns) (stretches : List Stretch) → AreRight passes from to before stretches → from ≤ to

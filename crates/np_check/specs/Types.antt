@@ -9,7 +9,7 @@ pub use Rattle.np_addr.specs.declared.address.Address.TheVariants.{Four, Six}
 pub use Rattle.np_addr.specs.declared.address.Family.{Family}
 pub use Rattle.np_model.specs.declared.direction.Direction.TheVariants.{Egress, Ingress}
 pub use Rattle.np_model.specs.declared.lists.EstateLists.{EstateLists}
-pub use Rattle.np_check.specs.declared.addresses.Broken.{Broken}
+pub use Rattle.np_check.specs.declared.addresses.BreakingAddress.{BreakingAddress}
 pub use Rattle.np_check.specs.declared.counterexample.Counterexample.{Counterexample}
 pub use Rattle.np_check.specs.declared.counterexample.PlaceEnd.{PlaceEnd}
 pub use Rattle.np_check.specs.declared.counterexample.PlaceEnd.TheVariants.{At, Work}

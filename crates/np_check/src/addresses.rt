@@ -128,7 +128,7 @@ fn earlier_of(kept: Counterexample, counterexample: Counterexample) -> Counterex
 
 /// An address, and a protocol and port at which a packet with it breaks a statement.
 #[derive(Clone, Copy)]
-pub(crate) struct Broken {
+pub(crate) struct BreakingAddress {
     pub address: Address,
     pub spot: PortSpot,
 }
@@ -138,7 +138,7 @@ fn first_broken(
     asked: &Asked<'_>,
     rows: &[AddressRow],
     block: &AddrSet,
-) -> Result<Option<Broken>, NoMemory>
+) -> Result<Option<BreakingAddress>, NoMemory>
     requires { IsAddressSet block.now }
     ensures { (passes : Family → ℕ → PortSpot → Bool) → rows.now ≡ rows_of_addresses passes →
         IfOk result (λ made. made ≡ spec.first_broken_of asked.now.wanted asked.now.conns.now block.now passes) }
@@ -157,7 +157,7 @@ fn first_broken_in(
     asked: &Asked<'_>,
     row: &AddressRow,
     block: &AddrSet,
-) -> Result<Option<Broken>, NoMemory>
+) -> Result<Option<BreakingAddress>, NoMemory>
     ensures { IfOk result (λ made. made ≡ spec.broken_in asked.now.wanted asked.now.conns.now block.now row.now) }
 {
     let Some(address) = first_within(block, row.span) else {
@@ -166,7 +166,7 @@ fn first_broken_in(
     let Some(spot) = asked.first_broken(&row.conns)? else {
         return Ok(None);
     };
-    Ok(Some(Broken { address, spot }))
+    Ok(Some(BreakingAddress { address, spot }))
 }
 
 // The first address of a set in a range.

@@ -6,7 +6,7 @@ use Rattle.std.proofs.lemmas.Cmp.{nat_cmp_total}
 use Rattle.std.specs.Cmp.{tied_itself}
 use Rattle.std.specs.Ordering.{nat_cmp}
 use Rattle.np_base.proofs.Lists.{Contains-one}
-use Rattle.np_command_explain.specs.Types.{Address, AskedEnd, At, End, Ends, EndWord, EstateLists, Explanation, Family, Fault, Four, SameEnd, Six, Work}
+use Rattle.np_command_explain.specs.Types.{Address, AskedEnd, At, End, ExplainedEnds, EndWord, EstateLists, Explanation, Family, Fault, Four, SameEnd, Six, Work}
 use Rattle.np_command.proofs.EndLemmas.{named_workload}
 use Rattle.np_command_explain.proofs.NamedLemmas.{AsksFor, IsOf, named-of}
 use Rattle.np_command_explain.specs.Promise.{AreNamed, Explains, HaveBothFamilies, IsFamilyBetween, IsRightIn, one_for_all, one_for_each}
@@ -132,17 +132,17 @@ ends-far lists folding source destination near far folded source_in destination_
     by true is far_is = absurd (cc)
     by false is far_is =
         let far_there : far ≡ destination_end (folding_of lists) source destination = cc in
-        let of_near : End → Ends = λ one. record { source = one; destination = far } in
-        let of_far : End → Ends = λ one. record { source = source_end (folding_of lists) source; destination = one } in
+        let of_near : End → ExplainedEnds = λ one. record { source = one; destination = far } in
+        let of_far : End → ExplainedEnds = λ one. record { source = source_end (folding_of lists) source; destination = one } in
         subst (AreEnds lists) (sym (ap of_near near_there ∙ ap of_far far_there)) (ends-there lists source destination source_in destination_in is)
 
 -- ends that are told are no one pod's
-pub ends-between : (lists : EstateLists) (from : List ℕ) (source destination : AskedEnd) (ends : Ends) → ends_between (folding_of lists) from source destination ≡ Ok ends
+pub ends-between : (lists : EstateLists) (from : List ℕ) (source destination : AskedEnd) (ends : ExplainedEnds) → ends_between (folding_of lists) from source destination ≡ Ok ends
     → (are_one (folding_of lists) source destination ≡ false) × (ends ≡ record { source = source_end (folding_of lists) source; destination = destination_end (folding_of lists) source destination })
 unfolding ends_between
 ends-between lists from source destination ends is = by (are_one (folding_of lists) source destination) refl is
   where
-    told : Ends
+    told : ExplainedEnds
     told = record { source = source_end (folding_of lists) source; destination = destination_end (folding_of lists) source destination }
 
     by : (one : Bool) → are_one (folding_of lists) source destination ≡ one → (if one then Err (SameEnd from) else Ok told) ≡ Ok ends

@@ -1,6 +1,6 @@
 -- What a report of `explain` says, from what was written of it, and why there is none. For crates above.
 use Rattle.std.proofs.Common.{◌≡◌, ℕ, List, Bool, true, false, None, Result, Ok, Err, Some, refl, if◌then◌else◌}
-use Rattle.np_command_explain.specs.Types.{AskedEnd, Ends, EndWord, EstateLists, Fault, SameEnd}
+use Rattle.np_command_explain.specs.Types.{AskedEnd, ExplainedEnds, EndWord, EstateLists, Fault, SameEnd}
 use Rattle.np_command.specs.Ends.{end_text}
 use Rattle.np_command.specs.Inputs.{lists_of}
 use Rattle.np_command.specs.Prints.{fault_in, text_in}
@@ -13,11 +13,11 @@ use Rattle.np_command_explain.specs.Report.{are_one, asked_end, destination_end,
 use Rattle.np_fold.specs.Workloads.{folding_of}
 use Rattle.np_model.specs.Lawful.{IsLawful}
 
-no_ends : (fault : Fault) (ends : Ends) → Err fault ≡ Ok ends → ⊥
+no_ends : (fault : Fault) (ends : ExplainedEnds) → Err fault ≡ Ok ends → ⊥
 no_ends fault ends is = cc
 
 -- what stands for two ends
-abbrev told : EstateLists → AskedEnd → AskedEnd → Ends
+abbrev told : EstateLists → AskedEnd → AskedEnd → ExplainedEnds
 told lists source destination = record { source = source_end (folding_of lists) source; destination = destination_end (folding_of lists) source destination }
 
 -- ---- what is said
@@ -40,7 +40,7 @@ says_told out from to texts lists source destination read lawful from_is to_is a
       printed = took;
     }
 
-says_ends : (out : SinkTrace) (from to : EndWord) (texts : List (List ℕ)) (lists : EstateLists) (source destination : Result AskedEnd Fault) (ends : Result Ends Fault) → lists_of texts ≡ Ok lists →
+says_ends : (out : SinkTrace) (from to : EndWord) (texts : List (List ℕ)) (lists : EstateLists) (source destination : Result AskedEnd Fault) (ends : Result ExplainedEnds Fault) → lists_of texts ≡ Ok lists →
     IsLawful lists
     → asked_end lists from ≡ source → asked_end lists to ≡ destination → known_ends (folding_of lists) (end_text from) source destination ≡ ends
     → fault_in (explain_ends from to lists ends) ≡ None → TookWhole out (text_in (explain_ends from to lists ends)) → ExplainsAll out from to texts
@@ -72,7 +72,7 @@ refused_between from to lists fault source destination lawful from_is to_is is =
     asks' : AsksFor lists to destination
     asks' = asked-is lists to destination to_is
 
-    found : Ends
+    found : ExplainedEnds
     found = told lists source destination
 
     by : (one : Bool) → are_one (folding_of lists) source destination ≡ one

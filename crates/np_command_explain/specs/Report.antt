@@ -1,6 +1,6 @@
 -- `explain`: what decides between two ends.
 use Rattle.std.specs.Prelude.{ℕ, List, [], ◌∷◌, ◌++◌, Bool, false, codes, flat_map, Option, Some, None, Result, Ok, Err, if◌then◌else◌}
-use Rattle.np_command_explain.specs.Types.{AskedEnd, At, Direction, Egress, End, Ends, EndWord, EstateLists, Explanation, Family, Fault, Four, Ingress, Part, SameEnd, Shown, Six, Work}
+use Rattle.np_command_explain.specs.Types.{AskedEnd, At, Direction, Egress, End, ExplainedEnds, EndWord, EstateLists, Explanation, Family, Fault, Four, Ingress, Part, SameEnd, Shown, Six, Work}
 use Rattle.np_command.specs.Ends.{end_text, family_asked, or_unknown}
 use Rattle.np_conns.specs.Conns.{has_spot}
 use Rattle.np_conns.specs.ConnsText.{conns_text}
@@ -37,18 +37,18 @@ are_one folding (Work source) (At address) = false
 are_one folding (Work source) (Work destination) = is_alone folding source destination
 
 -- what stands for both, or the fault that nothing does, with the word of the source
-unfoldable pub ends_between : Folding → List ℕ → AskedEnd → AskedEnd → Result Ends Fault
+unfoldable pub ends_between : Folding → List ℕ → AskedEnd → AskedEnd → Result ExplainedEnds Fault
 ends_between folding from source destination =
     if are_one folding source destination then Err (SameEnd from)
     else Ok (record { source = source_end folding source; destination = destination_end folding source destination })
 
 -- what stands for both ends where both are known, else a fault: that of the source first
-abbrev pub known_ends : Folding → List ℕ → Result AskedEnd Fault → Result AskedEnd Fault → Result Ends Fault
+abbrev pub known_ends : Folding → List ℕ → Result AskedEnd Fault → Result AskedEnd Fault → Result ExplainedEnds Fault
 known_ends folding from (Err fault) destination = Err fault
 known_ends folding from (Ok source) (Err fault) = Err fault
 known_ends folding from (Ok source) (Ok destination) = ends_between folding from source destination
 
-unfoldable pub ends_named : EstateLists → EndWord → EndWord → Result Ends Fault
+unfoldable pub ends_named : EstateLists → EndWord → EndWord → Result ExplainedEnds Fault
 ends_named lists from to = known_ends (folding_of lists) (end_text from) (asked_end lists from) (asked_end lists to)
 
 -- ---- explanations
@@ -66,7 +66,7 @@ in_families (Some one) make = shown None (make one) ∷ []
 in_families None make = of_both (make Four) (make Six)
 
 -- what is shown of two ends
-unfoldable pub explanations : EstateLists → Ends → List Shown
+unfoldable pub explanations : EstateLists → ExplainedEnds → List Shown
 explanations lists ends = in_families (family_asked lists ends.source ends.destination) (explanation_of lists ends.source ends.destination)
 
 -- ---- text
@@ -86,7 +86,7 @@ explain_text from to all = flat_map (shown_text from to) all
 
 -- ---- all of it
 
-abbrev pub explain_ends : EndWord → EndWord → EstateLists → Result Ends Fault → Result (List ℕ) Fault
+abbrev pub explain_ends : EndWord → EndWord → EstateLists → Result ExplainedEnds Fault → Result (List ℕ) Fault
 explain_ends from to lists (Ok ends) = Ok (explain_text (end_text from) (end_text to) (explanations lists ends))
 explain_ends from to lists (Err fault) = Err fault
 

@@ -13,5 +13,5 @@ pub use Rattle.np_command.specs.declared.fault.Fault.{Fault}
 pub use Rattle.np_command.specs.declared.fault.Fault.TheVariants.{SameEnd, UnknownEnd}
 pub use Rattle.np_command_explain.specs.declared.report.AskedEnd.{AskedEnd}
 pub use Rattle.np_command_explain.specs.declared.report.AskedEnd.TheVariants.{At, Work}
-pub use Rattle.np_command_explain.specs.declared.report.Ends.{Ends}
+pub use Rattle.np_command_explain.specs.declared.report.ExplainedEnds.{ExplainedEnds}
 pub use Rattle.np_command_explain.specs.declared.report.Shown.{Shown}

@@ -5,4 +5,4 @@ mod laws;
 mod report;
 
 pub use laws::one_text_says_what_decides;
-pub use report::{AskedEnd, Ends, Shown, explain};
+pub use report::{AskedEnd, ExplainedEnds, Shown, explain};

@@ -35,7 +35,7 @@ pub enum AskedEnd {
 
 /// The two ends that stand for those that are asked about: pods of the workloads, or the addresses.
 #[derive(Clone, Copy)]
-pub struct Ends {
+pub struct ExplainedEnds {
     pub source: End,
     pub destination: End,
 }
@@ -75,7 +75,12 @@ pub fn explain<O: Sink, L: Ledger>(
 
 // What stands for the ends that words name.
 #[tactic(auto, unfolding(crate::specs::Report::ends_named))]
-fn ends_named(alloc: Global, folded: &Folded, from: &EndWord, to: &EndWord) -> Result<Ends, Failure>
+fn ends_named(
+    alloc: Global,
+    folded: &Folded,
+    from: &EndWord,
+    to: &EndWord,
+) -> Result<ExplainedEnds, Failure>
     ensures named { Gives result (spec.ends_named folded.now from.now to.now) }
     ensures ends { IfOk result (AreEnds folded.now) }
 {
@@ -104,7 +109,7 @@ fn ends_between(
     source: AskedEnd,
     destination: AskedEnd,
     from: &Text,
-) -> Result<Ends, Failure>
+) -> Result<ExplainedEnds, Failure>
     requires source { IsAsked folded.now source }
     requires destination { IsAsked folded.now destination }
     ensures between { Gives result (spec.ends_between (folding_of folded.now) from.now source destination) }
@@ -112,7 +117,7 @@ fn ends_between(
 {
     let workloads = folded.workloads();
     match destination_end(workloads, source, destination) {
-        Some(far) => Ok(Ends {
+        Some(far) => Ok(ExplainedEnds {
             source: source_end(workloads, source),
             destination: far,
         }),
@@ -157,7 +162,7 @@ fn destination_end(workloads: &Workloads, source: AskedEnd, destination: AskedEn
 fn explanations<L: Ledger>(
     alloc: Global,
     estate: &Estate,
-    ends: &Ends,
+    ends: &ExplainedEnds,
     steps: &mut Steps<L>,
 ) -> Result<Seq<Shown>, NoMemory>
     requires lawful { IsLawful estate.now }
@@ -184,7 +189,7 @@ fn explanations<L: Ledger>(
 fn explanation_in<L: Ledger>(
     alloc: Global,
     estate: &Estate,
-    ends: &Ends,
+    ends: &ExplainedEnds,
     family: Family,
     steps: &mut Steps<L>,
 ) -> Result<Explanation, NoMemory>

@@ -1,4 +1,4 @@
--- The names that are kept of a side, place by place. For `Side::admin_allows`, `Side::admin_rule` and 5 more.
+-- The names that are kept of a side, place by place. For `NamedSide::admin_allows`, `NamedSide::admin_rule` and 5 more.
 use Rattle.std.proofs.Common.{◌≡◌, ℕ, zero, suc, ◌+◌, ◌<◌, List, [], ◌∷◌, ◌++◌, Bool, codes, filter, length, get_or, map, take, All, Option, Some, refl, sym, ap, ◌∙◌, subst, inl, inr, arith}
 use Rattle.std.specs.List.{slice_get}
 use Rattle.std.specs.Option.{option_map, option_map_or}

@@ -15,7 +15,7 @@ ghost use Rattle.np_rules.specs.model.Verdict.{IsEndOf, end_of};
 use crate::flow::Flow;
 use crate::order::first_number;
 use crate::part::Part;
-use crate::side::Side;
+use crate::side::NamedSide;
 use np_addr::Family;
 use np_base::{Cells, NoMemory, Seq, Steps};
 use np_conns::ConnSet;
@@ -113,7 +113,7 @@ fn parts_with<L: Ledger>(
     ensures most { steps.new ≤ steps.old + side_rule_count rules.now }
 {
     let layer = layer_with(alloc, rules, far, family, steps)?;
-    let side = Side::of(alloc, rules, &layer)?;
+    let side = NamedSide::of(alloc, rules, &layer)?;
     let entries = carve(alloc, &layer)?;
     let mut parts = named_parts(alloc, &side, entries)?;
     parts.sort_unstable_by_key(|part| first_number(&part.conns));
@@ -144,7 +144,7 @@ fn layer_with<L: Ledger>(
 // The carved sets, with what decides in place of their marks.
 fn named_parts(
     alloc: Global,
-    side: &Side<'_, '_>,
+    side: &NamedSide<'_, '_>,
     entries: Seq<Marked<ConnSet>>,
 ) -> Result<Vec<Part>, NoMemory>
     requires { All (λ entry. IsMarkOf side.now entry.mark) entries }

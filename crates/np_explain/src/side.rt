@@ -21,14 +21,14 @@ use std::marker::Model;
 /// NetworkPolicies that isolate the pod are held once, whatever number of deciders have them. Contracts see the estate's lists,
 /// the pod's place among its pods, and the direction.
 #[derive(Drop)]
-pub(crate) struct Side<'s, 'e> {
+pub(crate) struct NamedSide<'s, 'e> {
     side: &'s PodRules<'e>,
     layer: &'s Layer<ConnSet>,
     rules: LayerRules,
     isolating: PolicyNames,
 }
 
-impl<'s, 'e> Model for Side<'s, 'e> {
+impl<'s, 'e> Model for NamedSide<'s, 'e> {
     ghost use Rattle.np_explain.specs.Marks.{KeepsSide};
     ghost use Rattle.np_rules.specs.PodSides.{PodSide};
 
@@ -39,13 +39,13 @@ impl<'s, 'e> Model for Side<'s, 'e> {
     ghost invariant = { λ s. KeepsSide s.side.now s.layer.now s.rules s.isolating };
 }
 
-impl<'s, 'e> Side<'s, 'e> {
+impl<'s, 'e> NamedSide<'s, 'e> {
     /// The side whose rules these are, as one of its layers has them.
     pub(crate) fn of(
         alloc: Global,
         side: &'s PodRules<'e>,
         layer: &'s Layer<ConnSet>,
-    ) -> Result<Side<'s, 'e>, NoMemory>
+    ) -> Result<NamedSide<'s, 'e>, NoMemory>
         requires few { IsFew side.now.lists }
         requires says { SaysActions side.now layer.now }
         ensures { IfOk result (λ made. made ≡ side.now) }
@@ -54,7 +54,7 @@ impl<'s, 'e> Side<'s, 'e> {
         let policies = side.estate().net_policies();
         let names = net_policy_names(alloc, policies, rules.isolating.items())?;
         let isolating = PolicyNames::of(alloc, names)?;
-        Ok(Side {
+        Ok(NamedSide {
             side,
             layer,
             rules,

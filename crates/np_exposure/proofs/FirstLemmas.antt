@@ -9,7 +9,7 @@ use Rattle.np_base.proofs.Lists.{list_all-both}
 use Rattle.np_exposure.proofs.SameLemmas.{same_side-refl}
 use Rattle.np_exposure.specs.Mentions.{same_side}
 use Rattle.np_exposure.specs.Weight.{keys_on}
-use Rattle.np_exposure.specs.Types.{Label, Namespace, Pod, Side, SidedRequirement}
+use Rattle.np_exposure.specs.Types.{MentionedKey, Namespace, Pod, Side, SidedRequirement}
 use Rattle.np_exposure.specs.Choices.{Choices, choices_at_first, choices_of, has_choice, is_name_key, is_open, label_at, labels_of, labels_on}
 use Rattle.np_exposure.specs.steps.States.{IsState, are_apart, is_apart, is_named_at}
 use Rattle.np_labels.proofs.Ascending.{bytes_eq-below}
@@ -22,7 +22,7 @@ some-append : {X : Type 0} (front : List X) (x : X) (back : List X) → list_any
 some-append [] x back = refl
 some-append (y ∷ front) x back = refl
 
-open-first : (labels : List Label) → is_open (map choices_of labels) ≡ true
+open-first : (labels : List MentionedKey) → is_open (map choices_of labels) ≡ true
 open-first [] = refl
 open-first (label ∷ labels) = and_from (has_choice (choices_of label)) (is_open (map choices_of labels)) (some-append (map Some label.values) (Some label.other) _) (open-first labels)
 
@@ -32,11 +32,11 @@ all-some : (values : List (List ℕ)) (other : List ℕ) → list_all (λ found.
 all-some [] other = refl
 all-some (value ∷ values) other = all-some values other
 
-named_at-first : (label : Label) (b : Bool) → (not b || list_all (λ found. is_some found) (map Some label.values ++ Some label.other ∷ (if b then [] else None ∷ []))) ≡ true
+named_at-first : (label : MentionedKey) (b : Bool) → (not b || list_all (λ found. is_some found) (map Some label.values ++ Some label.other ∷ (if b then [] else None ∷ []))) ≡ true
 named_at-first label true = all-some label.values label.other
 named_at-first label false = refl
 
-named-first : (labels : List Label) → list_all is_named_at (map choices_of labels) ≡ true
+named-first : (labels : List MentionedKey) → list_all is_named_at (map choices_of labels) ≡ true
 named-first [] = refl
 named-first (label ∷ labels) = and_from (is_named_at (choices_of label)) (list_all is_named_at (map choices_of labels)) (named_at-first label (is_name_key label.side label.key)) (named-first labels)
 

@@ -4,7 +4,7 @@ use Rattle.std.specs.List.{list_all, list_any}
 use Rattle.std.specs.Str.{bytes_eq}
 use Rattle.np_exposure.specs.Mentions.{same_side}
 use Rattle.np_exposure.specs.Weight.{keys_on, looks_at, values_at}
-use Rattle.np_exposure.specs.Types.{Label, Namespace, Pair, Pod, Side, SidedRequirement, Stranger}
+use Rattle.np_exposure.specs.Types.{MentionedKey, Namespace, Pair, Pod, Side, SidedRequirement, Stranger}
 use Rattle.np_labels.specs.Selectors.{allows}
 
 -- what may be found at a key of a side's labels: one of these values, or none
@@ -24,18 +24,18 @@ abbrev pub other_than : List (List ℕ) → List ℕ
 other_than values = flat_map (λ value. value) values ++ codes "a"
 
 -- a key that is mentioned on a side, with the values that are, and another one
-abbrev pub label_at : Side → List SidedRequirement → List ℕ → Label
+abbrev pub label_at : Side → List SidedRequirement → List ℕ → MentionedKey
 label_at side all key = record { side = side; key = key; values = values_at side key all; other = other_than (values_at side key all) }
 
-abbrev pub labels_on : Side → List SidedRequirement → List Label
+abbrev pub labels_on : Side → List SidedRequirement → List MentionedKey
 labels_on side all = map (label_at side all) (keys_on side all)
 
 -- all mentioned keys, those of namespaces first
-abbrev pub labels_of : List SidedRequirement → List Label
+abbrev pub labels_of : List SidedRequirement → List MentionedKey
 labels_of all = labels_on Namespace all ++ labels_on Pod all
 
 -- the mentioned values, the other one, and that there is none
-abbrev pub choices_of : Label → Choices
+abbrev pub choices_of : MentionedKey → Choices
 choices_of label =
     record { side = label.side; key = label.key; found = map Some label.values ++ Some label.other ∷ (if is_name_key label.side label.key then [] else None ∷ []) }
 

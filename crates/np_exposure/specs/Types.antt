@@ -21,7 +21,7 @@ pub use Rattle.np_model.specs.declared.network_policy.NetRule.{NetRule}
 pub use Rattle.np_rules.specs.declared.stranger.Stranger.{Stranger}
 pub use Rattle.np_rules.specs.declared.stranger_rules.RuleConns.{RuleConns}
 pub use Rattle.np_exposure.specs.declared.exposure_row.ExposureRow.{ExposureRow}
-pub use Rattle.np_exposure.specs.declared.label.Label.{Label}
+pub use Rattle.np_exposure.specs.declared.mentioned_key.MentionedKey.{MentionedKey}
 pub use Rattle.np_exposure.specs.declared.open_rules.OpenRule.{OpenRule}
 pub use Rattle.np_exposure.specs.declared.open_rules.OpenRules.{OpenRules}
 pub use Rattle.np_exposure.specs.declared.pending.Pending.{Pending}

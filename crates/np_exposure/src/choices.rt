@@ -14,7 +14,7 @@ ghost use Rattle.np_labels.specs.Selectors.{allows};
 ghost use Rattle.np_rules.specs.Laws.{IsAmong};
 ghost use Rattle.np_rules.specs.declared.stranger.Stranger.{Stranger};
 
-use crate::label::Label;
+use crate::mentioned_key::MentionedKey;
 use crate::side::Side;
 use crate::sided_requirement::{SidedRequirement, allows};
 use np_base::{NoMemory, Text};
@@ -43,7 +43,7 @@ impl<'a> Model for KeyChoices<'a> {
 
 impl<'a> KeyChoices<'a> {
     /// All that may be found at a key.
-    pub(crate) fn of(alloc: Global, label: &'a Label) -> Result<KeyChoices<'a>, NoMemory>
+    pub(crate) fn of(alloc: Global, label: &'a MentionedKey) -> Result<KeyChoices<'a>, NoMemory>
         ensures { IfOk result (λ made. made ≡ spec.choices_of label.now) }
     {
         let mut found = Vec::new(alloc);
@@ -210,7 +210,7 @@ pub(crate) fn is_name_key(side: Side, key: &str) -> bool
 /// All that may be found at these keys.
 pub(crate) fn all_choices<'a>(
     alloc: Global,
-    labels: &'a [Label],
+    labels: &'a [MentionedKey],
 ) -> Result<Vec<KeyChoices<'a>>, NoMemory>
     ensures { IfOk result (λ made. made.items ≡ map spec.choices_of labels.now) }
 {

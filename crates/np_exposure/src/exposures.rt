@@ -14,7 +14,7 @@ use crate::asked_rule::{AskedRule, asked_rules};
 use crate::choices::{KeyChoices, all_choices};
 use crate::exposure_fault::ExposureFault;
 use crate::exposure_row::ExposureRow;
-use crate::label::{Label, labels_of};
+use crate::mentioned_key::{MentionedKey, labels_of};
 use crate::mentions::mentions;
 use crate::open_row::finished;
 use crate::open_rules::OpenRules;
@@ -83,7 +83,7 @@ fn rows_of_mentions<L: Ledger>(
 fn rows_of_labels<L: Ledger>(
     alloc: Global,
     rules: &StrangerRules<'_>,
-    labels: &[Label],
+    labels: &[MentionedKey],
     asked: &[SidedRequirement],
     steps: &mut Steps<L>,
 ) -> Result<Seq<ExposureRow>, NoMemory>

@@ -10,7 +10,7 @@ use Rattle.np_json.specs.Members.{as_whole, member_of}
 use Rattle.np_json.specs.Scalars.{name, port, text, whole}
 use Rattle.np_json.specs.Shapes.{Read, ◌>>=◌, ◌>>◌, has_member, has_one_of, listed, must_be_object, or_refuse, refuse, refuse_if, refuse_member_if, required}
 use Rattle.np_model.specs.Words.{is_word}
-use Rattle.np_meaning.specs.Types.{Action, AdminPeer, AdminPolicy, AdminPort, AdminRule, AdminSpec, Allow, BadAction, BadField, BadPort, BadPriority, BaselineName, BasePolicy, Deny, DomainPeer, Egress, EmptyPeers, Ingress, NodePeer, Pass, PeerShape, Subject, Tier}
+use Rattle.np_meaning.specs.Types.{Action, AdminPeer, AdminPolicy, AdminPort, AdminRule, AdminSpec, Allow, BadAction, BadField, BadPort, BadPriority, BaselineName, BasePolicy, Deny, DomainPeer, Egress, EmptyPeers, Ingress, NodePeer, Pass, PeerShape, Subject, AdminKind}
 use Rattle.np_model.specs.declared.admin_policy.AdminPort.TheVariants.{Named, Span}
 use Rattle.np_meaning.proofs.PolicyKinds.{admin-read, base-read}
 use Rattle.np_meaning.proofs.MemberReads.{object_at-output, found-output, required-some, AreEach-listed, number_at-output, name-output, port-whole, of_type-output, text_at-output}
@@ -29,7 +29,7 @@ use Rattle.np_policies.specs.Items.{items_at}
 use Rattle.np_meaning.specs.MemberMeaning.{number_at, object_at, spec_of, text_at}
 use Rattle.np_policies.specs.Selectors.{everything, selector}
 use Rattle.np_model.specs.declared.admin_policy.AdminPeer.TheVariants as peer
-use Rattle.np_policies.specs.declared.admin_rule_shape.Tier.TheVariants as tier
+use Rattle.np_policies.specs.declared.admin_rule_shape.AdminKind.TheVariants as tier
 use Rattle.np_policies.specs.declared.policy.Policy.TheVariants as policy
 
 -- ---- subjects and peers
@@ -200,7 +200,7 @@ admin_port-output value read is =
 
 -- ---- rules
 
-named-text : (which : Tier) (s : List ℕ) (one : Action) → action_named which s ≡ Some one → s ≡ action_text one
+named-text : (which : AdminKind) (s : List ℕ) (one : Action) → action_named which s ≡ Some one → s ≡ action_text one
 named-text tier.Admin s one is = by (bytes_eq s (codes "Allow")) refl (bytes_eq s (codes "Deny")) refl (bytes_eq s (codes "Pass")) refl is
   where
     by : (allow : Bool) → bytes_eq s (codes "Allow") ≡ allow → (deny : Bool) → bytes_eq s (codes "Deny") ≡ deny → (pass : Bool) → bytes_eq s (codes "Pass") ≡ pass →
@@ -227,18 +227,18 @@ named-text tier.Baseline s one is = by (bytes_eq s (codes "Allow")) refl (bytes_
         (bytes_decides s (codes "Deny")).0 other ∙ ap action_text (sym same)
     by false here false other is = cc
 
-action-output : (which : Tier) (value : Data) (one : Action) → action which value ≡ Ok one → as_str value ≡ Some (action_text one)
+action-output : (which : AdminKind) (value : Data) (one : Action) → action which value ≡ Ok one → as_str value ≡ Some (action_text one)
 unfolding action
 action-output which value one is =
     let read = bind-output (text value) (λ s. or_refuse BadAction (action_named which s)) one is in
     of_type-output (as_str value) read.first read.here ∙ ap Some (named-text which read.first one (or_refuse-output BadAction (action_named which read.first) one read.after))
 
-action_at-output : (which : Tier) (value : Data) (one : Action) → required (codes "action") (action which) value ≡ Ok one → text_at (codes "action") value ≡ action_text one
+action_at-output : (which : AdminKind) (value : Data) (one : Action) → required (codes "action") (action which) value ≡ Ok one → text_at (codes "action") value ≡ action_text one
 action_at-output which value one is =
     let member = required-output (action which) (codes "action") value one is in
     rw (member.there, action-output which member.found one member.read) refl
 
-ingress_rule-output : (which : Tier) (value : Data) (read : AdminRule) → admin_rule which Ingress value ≡ Ok read → IsIngressRule value read
+ingress_rule-output : (which : AdminKind) (value : Data) (read : AdminRule) → admin_rule which Ingress value ≡ Ok read → IsIngressRule value read
 unfolding admin_rule admin_peers
 ingress_rule-output which value read is =
     let past = then-output (must_be_object value) _ read is in
@@ -255,7 +255,7 @@ ingress_rule-output which value read is =
       ports = AreEach-listed admin_port IsAdminPort admin_port-output (codes "ports") value ports.first ports.here;
     })
 
-egress_rule-output : (which : Tier) (value : Data) (read : AdminRule) → admin_rule which Egress value ≡ Ok read → IsEgressRule value read
+egress_rule-output : (which : AdminKind) (value : Data) (read : AdminRule) → admin_rule which Egress value ≡ Ok read → IsEgressRule value read
 unfolding admin_rule admin_peers
 egress_rule-output which value read is =
     let past = then-output (must_be_object value) _ read is in
@@ -302,7 +302,7 @@ base_name-output value s is =
     (unbroken_member-output (codes "name") (not (bytes_eq read.first (codes "default"))) BaselineName (Ok read.first) s read.after) in
     object_name-output value read.first read.here ∙ (bytes_decides read.first (codes "default")).0 is_default
 
-rules-output : (which : Tier) (value : Data) (pods : Subject) (ingress egress : List AdminRule) → required (codes "subject") subject value ≡ Ok pods → admin_rules which Ingress value ≡ Ok ingress →
+rules-output : (which : AdminKind) (value : Data) (pods : Subject) (ingress egress : List AdminRule) → required (codes "subject") subject value ≡ Ok pods → admin_rules which Ingress value ≡ Ok ingress →
     admin_rules which Egress value ≡ Ok egress → IsAdminSpec value pods ingress egress
 unfolding admin_rules
 rules-output which value pods ingress egress pods_are ingress_is egress_is = record {

@@ -52,7 +52,7 @@ pub use Rattle.np_objects.specs.declared.object.Object.{Object}
 pub use Rattle.np_objects.specs.declared.owner_ref.OwnerRef.{OwnerRef}
 pub use Rattle.np_objects.specs.declared.pod_item.PodItem.{PodItem}
 pub use Rattle.np_policies.specs.declared.admin_policy_shape.AdminSpec.{AdminSpec}
-pub use Rattle.np_policies.specs.declared.admin_rule_shape.Tier.{Tier}
+pub use Rattle.np_policies.specs.declared.admin_rule_shape.AdminKind.{AdminKind}
 pub use Rattle.np_policies.specs.declared.ip_block_shape.IpBlock.{IpBlock}
 pub use Rattle.np_policies.specs.declared.net_policy_shape.NetSpec.{NetSpec}
 pub use Rattle.np_policies.specs.declared.net_port_shape.PortValue.{PortValue}

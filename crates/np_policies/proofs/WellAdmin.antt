@@ -7,7 +7,7 @@ use Rattle.serde_json.specs.Data.{Data}
 use Rattle.np_json.specs.Scalars as scalars
 use Rattle.np_json.specs.Shapes.{◌>>=◌, ◌>>◌, has_member, has_one_of, listed, must_be_object, or_refuse, refuse, refuse_if, refuse_member_if, required}
 use Rattle.np_model.specs.Words.{is_name, direction_text}
-use Rattle.np_policies.specs.Types.{Action, AdminPeer, AdminPolicy, AdminRule, AdminSpec, Allow, BadAction, BadPriority, BasePolicy, Deny, Direction, DomainPeer, Egress, EmptyPeers, Ingress, NodePeer, Pass, PeerShape, Subject, Tier}
+use Rattle.np_policies.specs.Types.{Action, AdminPeer, AdminPolicy, AdminRule, AdminSpec, Allow, BadAction, BadPriority, BasePolicy, Deny, Direction, DomainPeer, Egress, EmptyPeers, Ingress, NodePeer, Pass, PeerShape, Subject, AdminKind}
 use Rattle.np_policies.proofs.ReadLemmas.{bind-output, then-output, or_refuse-output}
 use Rattle.np_policies.proofs.WellLemmas.{unbroken_member-output, listed-well, required-well, selector-well, cidr_text-well, admin_port-well}
 use Rattle.np_policies.specs.AdminPolicies.{action, action_named, admin_peer, admin_peers, admin_policy, admin_rule, admin_rules, admin_spec, all_pods, base_name, base_policy, base_spec}
@@ -18,7 +18,7 @@ use Rattle.np_policies.specs.Ports.{admin_port}
 use Rattle.np_policies.specs.Selectors.{everything, selector}
 use Rattle.np_model.specs.WellPolicies.{is_decision, is_well_admin_peer, is_well_admin_policy, is_well_admin_port, is_well_admin_rule, is_well_base_policy, is_well_cidr, is_well_selector, is_well_subject}
 use Rattle.np_model.specs.declared.admin_policy.AdminPeer.TheVariants as peer
-use Rattle.np_policies.specs.declared.admin_rule_shape.Tier.TheVariants as tier
+use Rattle.np_policies.specs.declared.admin_rule_shape.AdminKind.TheVariants as tier
 use Rattle.np_policies.proofs.WellNetwork.{name-well}
 
 -- ---- subjects and peers of admin policies
@@ -109,11 +109,11 @@ admin_peers-well direction value read is =
     rw (← made) (rw (some, each) refl)
 
 -- a decision, where the policy is the baseline
-abbrev may_stand : Tier → Action → Bool
+abbrev may_stand : AdminKind → Action → Bool
 may_stand tier.Admin one = true
 may_stand tier.Baseline one = is_decision one
 
-named-well : (which : Tier) (s : List ℕ) (one : Action) → action_named which s ≡ Some one → may_stand which one ≡ true
+named-well : (which : AdminKind) (s : List ℕ) (one : Action) → action_named which s ≡ Some one → may_stand which one ≡ true
 named-well tier.Admin s one is = refl
 named-well tier.Baseline s one is = by (bytes_eq s (codes "Allow")) (bytes_eq s (codes "Deny")) one is
   where
@@ -124,16 +124,16 @@ named-well tier.Baseline s one is = by (bytes_eq s (codes "Allow")) (bytes_eq s 
     by false true Pass is = cc
     by false false Pass is = cc
 
-action-well : (which : Tier) (value : Data) (one : Action) → action which value ≡ Ok one → may_stand which one ≡ true
+action-well : (which : AdminKind) (value : Data) (one : Action) → action which value ≡ Ok one → may_stand which one ≡ true
 unfolding action
 action-well which value one is =
     let read = bind-output (scalars.text value) (λ s. or_refuse BadAction (action_named which s)) one is in
     named-well which read.first one (or_refuse-output BadAction (action_named which read.first) one read.after)
 
-abbrev is_well_rule : Tier → AdminRule → Bool
+abbrev is_well_rule : AdminKind → AdminRule → Bool
 is_well_rule which rule = may_stand which rule.action && is_well_admin_rule rule
 
-admin_rule-well : (which : Tier) (direction : Direction) (value : Data) (read : AdminRule) → admin_rule which direction value ≡ Ok read → is_well_rule which read ≡ true
+admin_rule-well : (which : AdminKind) (direction : Direction) (value : Data) (read : AdminRule) → admin_rule which direction value ≡ Ok read → is_well_rule which read ≡ true
 unfolding admin_rule
 admin_rule-well which direction value read is =
     let past = then-output (must_be_object value) _ read is in
@@ -146,7 +146,7 @@ admin_rule-well which direction value read is =
     let third = listed-well admin_port is_well_admin_port admin_port-well (codes "ports") value ports.first ports.here in
     rw (← made) (rw (first, second, third) refl)
 
-admin_rules-well : (which : Tier) (direction : Direction) (value : Data) (read : List AdminRule) → admin_rules which direction value ≡ Ok read → list_all (is_well_rule which) read ≡ true
+admin_rules-well : (which : AdminKind) (direction : Direction) (value : Data) (read : List AdminRule) → admin_rules which direction value ≡ Ok read → list_all (is_well_rule which) read ≡ true
 unfolding admin_rules
 admin_rules-well which direction value read is = listed-well (admin_rule which direction) (is_well_rule which) (admin_rule-well which direction) (direction_text direction) value read is
 

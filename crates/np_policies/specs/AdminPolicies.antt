@@ -6,12 +6,12 @@ use Rattle.std.specs.Str.{bytes_eq}
 use Rattle.serde_json.specs.Data.{Data}
 use Rattle.np_json.specs.Scalars.{name, text, whole}
 use Rattle.np_json.specs.Shapes.{Read, ◌>>=◌, ◌>>◌, has_member, has_one_of, listed, must_be_object, or_refuse, refuse, refuse_if, refuse_member_if, required}
-use Rattle.np_policies.specs.Types.{Action, AdminPeer, AdminPolicy, AdminRule, AdminSpec, Allow, BadAction, BadPriority, BaselineName, BasePolicy, Deny, Direction, DomainPeer, Egress, EmptyPeers, Ingress, Networks, NodePeer, Pass, PeerShape, Pods, Selector, Subject, Tier}
+use Rattle.np_policies.specs.Types.{Action, AdminPeer, AdminPolicy, AdminRule, AdminSpec, Allow, BadAction, BadPriority, BaselineName, BasePolicy, Deny, Direction, DomainPeer, Egress, EmptyPeers, Ingress, Networks, NodePeer, Pass, PeerShape, Pods, Selector, Subject, AdminKind}
 use Rattle.np_policies.specs.Blocks.{cidr}
 use Rattle.np_policies.specs.NetworkPolicies.{peers_member}
 use Rattle.np_policies.specs.Ports.{admin_port}
 use Rattle.np_policies.specs.Selectors.{selector, everything}
-use Rattle.np_policies.specs.declared.admin_rule_shape.Tier.TheVariants.{Admin, Baseline}
+use Rattle.np_policies.specs.declared.admin_rule_shape.AdminKind.TheVariants.{Admin, Baseline}
 use Rattle.np_model.specs.Words.{direction_text}
 
 -- `namespaces` of a subject or peer: all pods of the namespaces that it selects
@@ -74,22 +74,22 @@ admin_peers direction value = do
   Ok peers
 
 -- what an action does; a baseline passes nothing on
-abbrev pub action_named : Tier → List ℕ → Option Action
+abbrev pub action_named : AdminKind → List ℕ → Option Action
 action_named Admin s = lookup (bytes_eq s) ((codes "Allow", Allow) ∷ (codes "Deny", Deny) ∷ (codes "Pass", Pass) ∷ [])
 action_named Baseline s = lookup (bytes_eq s) ((codes "Allow", Allow) ∷ (codes "Deny", Deny) ∷ [])
 
 -- `action` of a rule: one that the policy may have, else BadAction
-unfoldable pub action : Tier → Data → Read Action
+unfoldable pub action : AdminKind → Data → Read Action
 action tier value = do or_refuse BadAction (action_named tier (← text value))
 
 -- an entry of `ingress` or `egress`
-unfoldable pub admin_rule : Tier → Direction → Data → Read AdminRule
+unfoldable pub admin_rule : AdminKind → Direction → Data → Read AdminRule
 admin_rule tier direction value = must_be_object value >> do
   effect ← required (codes "action") (action tier) value
   Ok (record { action = effect; peers = (← admin_peers direction value); ports = (← listed (codes "ports") admin_port value) })
 
 -- the rules of a direction
-unfoldable pub admin_rules : Tier → Direction → Data → Read (List AdminRule)
+unfoldable pub admin_rules : AdminKind → Direction → Data → Read (List AdminRule)
 admin_rules tier direction value = listed (direction_text direction) (admin_rule tier direction) value
 
 -- a priority from 0 to 1000, else BadPriority

@@ -28,7 +28,7 @@ pub use Rattle.np_json.specs.declared.meta.NamespacedName.{NamespacedName}
 pub use Rattle.np_json.specs.declared.meta.TypeMeta.{TypeMeta}
 pub use Rattle.np_json.specs.declared.path.Step.TheVariants.{Field, Item}
 pub use Rattle.np_policies.specs.declared.admin_policy_shape.AdminSpec.{AdminSpec}
-pub use Rattle.np_policies.specs.declared.admin_rule_shape.Tier.{Tier}
+pub use Rattle.np_policies.specs.declared.admin_rule_shape.AdminKind.{AdminKind}
 pub use Rattle.np_policies.specs.declared.ip_block_shape.IpBlock.{IpBlock}
 pub use Rattle.np_policies.specs.declared.net_policy_shape.NetSpec.{NetSpec}
 pub use Rattle.np_policies.specs.declared.net_port_shape.PortValue.{PortValue}

@@ -2,7 +2,7 @@
 ghost use Rattle.np_json.specs.Shapes.{Gives};
 ghost use Rattle.np_policies.specs.AdminPolicies as shapes;
 
-use crate::admin_rule_shape::{Tier, admin_rules};
+use crate::admin_rule_shape::{AdminKind, admin_rules};
 use crate::subject_shape::SubjectShape;
 use np_base::{Seq, Text};
 use np_json::{
@@ -111,8 +111,8 @@ impl Shape for AdminSpecShape {
         must_be_object(alloc, value)?;
         let priority = required(alloc, value, "priority", &Priority)?;
         let subject = required(alloc, value, "subject", &SubjectShape)?;
-        let ingress = admin_rules(alloc, Tier::Admin, Direction::Ingress, value)?;
-        let egress = admin_rules(alloc, Tier::Admin, Direction::Egress, value)?;
+        let ingress = admin_rules(alloc, AdminKind::Admin, Direction::Ingress, value)?;
+        let egress = admin_rules(alloc, AdminKind::Admin, Direction::Egress, value)?;
         Ok(AdminSpec {
             priority,
             subject,
@@ -136,8 +136,8 @@ impl Shape for BaseSpecShape {
     fn read(&self, alloc: Global, value: &Value) -> Result<BasePolicy, ShapeFault> {
         must_be_object(alloc, value)?;
         let subject = required(alloc, value, "subject", &SubjectShape)?;
-        let ingress = admin_rules(alloc, Tier::Baseline, Direction::Ingress, value)?;
-        let egress = admin_rules(alloc, Tier::Baseline, Direction::Egress, value)?;
+        let ingress = admin_rules(alloc, AdminKind::Baseline, Direction::Ingress, value)?;
+        let egress = admin_rules(alloc, AdminKind::Baseline, Direction::Egress, value)?;
         Ok(BasePolicy {
             subject,
             ingress,

@@ -3,7 +3,7 @@ ghost use Rattle.serde_json.specs.View.{view};
 ghost use Rattle.np_json.specs.Shapes.{Gives};
 ghost use Rattle.np_policies.specs.Ports as shapes;
 
-use crate::port_members::{PortName, protocol};
+use crate::port_members::{PolicyPortName, protocol};
 use np_json::{
     FaultKind, Port, Shape, ShapeFault, has_member, has_one_of, must_be_object, refuse_if,
     refuse_member_if, required,
@@ -98,7 +98,7 @@ impl Shape for NamedPort {
 
     #[tactic(auto, unfolding(crate::specs::Ports::named_port))]
     fn read(&self, alloc: Global, value: &Value) -> Result<AdminPort, ShapeFault> {
-        let name = PortName.read(alloc, value)?;
+        let name = PolicyPortName.read(alloc, value)?;
         Ok(AdminPort::Named { name })
     }
 }

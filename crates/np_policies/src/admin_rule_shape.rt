@@ -3,7 +3,7 @@ ghost use Rattle.std.specs.Prelude.{◌≡◌};
 ghost use Rattle.serde_json.specs.View.{view};
 ghost use Rattle.np_json.specs.Shapes.{Gives};
 ghost use Rattle.np_policies.specs.AdminPolicies as shapes;
-ghost use Rattle.np_policies.specs.declared.admin_rule_shape.Tier.TheVariants as tiers;
+ghost use Rattle.np_policies.specs.declared.admin_rule_shape.AdminKind.TheVariants as tiers;
 
 use crate::admin_peer_shape::admin_peers;
 use crate::admin_port_shape::AdminPortShape;
@@ -16,7 +16,7 @@ use std::alloc::Global;
 
 /// The two kinds of policies whose rules have actions.
 #[derive(Clone, Copy)]
-pub enum Tier {
+pub enum AdminKind {
     Admin,
     Baseline,
 }
@@ -25,7 +25,7 @@ pub enum Tier {
 #[tactic(auto, unfolding(crate::specs::AdminPolicies::admin_rules))]
 pub(crate) fn admin_rules(
     alloc: Global,
-    tier: Tier,
+    tier: AdminKind,
     direction: Direction,
     spec: &Value,
 ) -> Result<Seq<AdminRule>, ShapeFault>
@@ -39,7 +39,7 @@ pub(crate) fn admin_rules(
 // AdminNetworkPolicyEgressRule): `action`, which is required, `from` or `to`, and `ports`.
 #[derive(Drop)]
 struct AdminRuleShape {
-    tier: Tier,
+    tier: AdminKind,
     direction: Direction,
 }
 
@@ -65,7 +65,7 @@ impl Shape for AdminRuleShape {
 // A text that names an action of such a policy. Another text is `BadAction`.
 #[derive(Drop)]
 struct ActionName {
-    tier: Tier,
+    tier: AdminKind,
 }
 
 impl Shape for ActionName {
@@ -80,12 +80,12 @@ impl Shape for ActionName {
     }
 }
 
-fn action_named(tier: Tier, text: &str) -> Option<Action>
+fn action_named(tier: AdminKind, text: &str) -> Option<Action>
     ensures { result ≡ shapes.action_named tier text.now }
 {
     match tier {
-        Tier::Admin => admin_action(text),
-        Tier::Baseline => baseline_action(text),
+        AdminKind::Admin => admin_action(text),
+        AdminKind::Baseline => baseline_action(text),
     }
 }
 

@@ -22,7 +22,7 @@ pub use policy_shape::read_policy;
 
 // What the definitions of the shapes speak of.
 pub use admin_policy_shape::AdminSpec;
-pub use admin_rule_shape::Tier;
+pub use admin_rule_shape::AdminKind;
 pub use ip_block_shape::IpBlock;
 pub use net_policy_shape::NetSpec;
 pub use net_port_shape::PortValue;

@@ -2,7 +2,7 @@
 ghost use Rattle.std.specs.Prelude.{◌≡◌, Some, unwrap_or};
 ghost use Rattle.np_policies.specs.Ports as shapes;
 
-use crate::port_members::{PortName, protocol};
+use crate::port_members::{PolicyPortName, protocol};
 use np_base::{PortNum, Text};
 use np_conns::Proto;
 use np_json::{FaultKind, Port, Shape, ShapeFault, must_be_object, optional, port_of, refuse_if};
@@ -51,7 +51,7 @@ impl Shape for PortValueShape {
     fn read(&self, alloc: Global, value: &Value) -> Result<PortValue, ShapeFault> {
         match value.as_i64() {
             Some(number) => Ok(PortValue::Number(port_of(alloc, number)?)),
-            None => Ok(PortValue::Name(PortName.read(alloc, value)?)),
+            None => Ok(PortValue::Name(PolicyPortName.read(alloc, value)?)),
         }
     }
 }

@@ -22,9 +22,9 @@ pub(crate) fn protocol(alloc: Global, object: &Value) -> Result<Proto, ShapeFaul
 
 /// The name of a container port: a word that is not empty. The empty text is `BadPort`, anything else `BadField`.
 #[derive(Drop)]
-pub(crate) struct PortName;
+pub(crate) struct PolicyPortName;
 
-impl Shape for PortName {
+impl Shape for PolicyPortName {
     type Output = Text;
 
     ghost reads = { λ _. shapes.port_name };

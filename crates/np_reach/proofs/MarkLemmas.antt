@@ -1,4 +1,4 @@
--- What a pod's row says of each far end. For `Reach::of`, `Sides::push_rows` and 3 more.
+-- What a pod's row says of each far end. For `Reach::of`, `SpokenSides::push_rows` and 3 more.
 use Rattle.std.proofs.Common.{◌≡◌, ℕ, zero, suc, ◌+◌, ◌<◌, List, [], ◌∷◌, ◌++◌, Bool, true, false, ◌&&◌, ◌||◌, not, map, length, take, get_or, option_and_then, slice_get, unwrap_or, Option, Some, arith, refl, sym, ap, ◌∙◌}
 use Rattle.std.specs.Prelude.{All}
 use Rattle.std.specs.List.{flat_map, list_any, range_with_len}

@@ -23,7 +23,7 @@ use Rattle.np_rules.specs.model.Places.{PlacedAdminRule, admin_places, admin_pla
 use Rattle.np_rules.specs.model.PortEntries.{admin_entry_matches, net_entry_matches}
 use Rattle.np_rules.specs.model.Rules.{admin_rule_matches, net_rule_matches, none_or_any}
 use Rattle.np_rules.specs.model.Selection.{net_selects, subject_selects}
-use Rattle.np_rules.specs.model.Sides.{action_says, admin_says, base_says, is_allow, side_allows}
+use Rattle.np_rules.specs.model.SpokenSides.{action_says, admin_says, base_says, is_allow, side_allows}
 
 and_quieter : (a b c : Bool) → (b ≡ false → c ≡ false) → (a && b) ≡ false → (a && c) ≡ false
 and_quieter true b c weaker none = weaker none

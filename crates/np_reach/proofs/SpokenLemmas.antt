@@ -1,4 +1,4 @@
--- Marks of pods by their places. For `Sides::push_rows`, `chosen_of` and 3 more.
+-- Marks of pods by their places. For `SpokenSides::push_rows`, `chosen_of` and 3 more.
 use Rattle.std.proofs.Common.{◌≡◌, ℕ, zero, suc, ◌+◌, ◌-◌, ◌<◌, ◌≤◌, List, [], ◌∷◌, ◌++◌, Bool, true, false, ◌&&◌, ◌||◌, map, length, replicate, get_or, slice_get, unwrap_or, Option, Some}
 use Rattle.std.proofs.Common.{arith, refl, sym, ap, subst, inl, inr, ◌∙◌, if◌then◌else◌}
 use Rattle.std.specs.Prelude.{All}

@@ -17,7 +17,7 @@ use Rattle.np_rules.specs.model.Peers.{admin_peer_matches, net_peer_matches}
 use Rattle.np_rules.specs.model.Places.{admin_rules_of, net_rules_of}
 use Rattle.np_rules.specs.model.Rules.{none_or_any}
 use Rattle.np_rules.specs.model.Selection.{net_selects, subject_selects}
-use Rattle.np_rules.specs.model.Sides.{is_allow}
+use Rattle.np_rules.specs.model.SpokenSides.{is_allow}
 
 -- two pods are of one namespace, as rules see them
 pub record AreOfOneNamespace (one far : PodEnd) : Type 0 where

@@ -54,7 +54,7 @@ impl Reach {
         let stretches = stretches(alloc, pods)?;
         let net = spoken_by(alloc, estate.net_policies(), direction, &stretches)?;
         let admin = spoken_by(alloc, estate.admin_policies(), direction, &stretches)?;
-        let sides = Sides {
+        let sides = SpokenSides {
             estate,
             direction,
             pods,
@@ -82,7 +82,7 @@ impl Reach {
 
 /// The sides of some pods in a direction, and the policies, each with which of these pods it speaks of.
 #[derive(Clone, Copy)]
-pub(crate) struct Sides<'a> {
+pub(crate) struct SpokenSides<'a> {
     pub estate: &'a Estate,
     pub direction: Direction,
     pub pods: &'a [&'a Pod],
@@ -90,7 +90,7 @@ pub(crate) struct Sides<'a> {
     pub admin: &'a [Spoken<'a, AdminPolicy>],
 }
 
-impl<'a> Sides<'a> {
+impl<'a> SpokenSides<'a> {
     // Puts last the rows of the pods of a stretch. Policies that may select none of its namespace are not asked for each of them.
     fn push_rows(
         &self,

@@ -13,7 +13,7 @@ use np_model::{AdminPeer, NetPeer};
 use std::alloc::Global;
 
 /// What stands for addresses.
-pub(crate) trait Addresses {
+pub(crate) trait StandsForAddresses {
     /// Whether an address is one of them.
     ghost stands_for: { Self → Address → Bool };
 
@@ -32,7 +32,7 @@ pub(crate) trait Addresses {
         ensures { IfOk result (λ set. (a : Address) → IsAddress a → set_has set a ≡ stands_for self.now a) };
 }
 
-impl Addresses for Cidr {
+impl StandsForAddresses for Cidr {
     ghost use Rattle.np_addr.specs.Addresses.{cidr_has};
     ghost use Rattle.np_rules.specs.AddressRules.{is_cidr, none_of_other_cidrs};
 
@@ -51,7 +51,7 @@ impl Addresses for Cidr {
     }
 }
 
-impl Addresses for NetPeer {
+impl StandsForAddresses for NetPeer {
     ghost use Rattle.np_rules.specs.AddressRules.{is_block, none_of_pods};
     ghost use Rattle.np_rules.specs.EveryAddress.{net_peer_has};
 
@@ -76,7 +76,7 @@ impl Addresses for NetPeer {
     }
 }
 
-impl Addresses for AdminPeer {
+impl StandsForAddresses for AdminPeer {
     ghost use Rattle.np_rules.specs.AddressRules.{is_networks, none_of_admin_pods};
     ghost use Rattle.np_rules.specs.EveryAddress.{admin_peer_has};
 
@@ -114,7 +114,10 @@ pub(crate) fn net_addresses(alloc: Global, peers: &[NetPeer]) -> Result<AddrSet,
 }
 
 /// The addresses that some item stands for. Where all are of a kind that stands for none, no set is made.
-pub(crate) fn joined_set<A: Addresses>(alloc: Global, items: &[A]) -> Result<AddrSet, NoMemory>
+pub(crate) fn joined_set<A: StandsForAddresses>(
+    alloc: Global,
+    items: &[A],
+) -> Result<AddrSet, NoMemory>
     ensures { IfOk result (λ set. (a : Address) → IsAddress a →
         set_has set a ≡ list_any (λ item. A.stands_for item a) items.now) }
 {
@@ -126,7 +129,7 @@ pub(crate) fn joined_set<A: Addresses>(alloc: Global, items: &[A]) -> Result<Add
 }
 
 /// Whether some item is of a kind that stands for addresses.
-pub(crate) fn are_of_addresses<A: Addresses>(items: &[A]) -> bool
+pub(crate) fn are_of_addresses<A: StandsForAddresses>(items: &[A]) -> bool
     ensures { result ≡ list_any A.is_of items.now }
 {
     items.iter().any(|item| item.is_of_addresses())
@@ -134,7 +137,7 @@ pub(crate) fn are_of_addresses<A: Addresses>(items: &[A]) -> bool
 
 // The same. The sets of both halves of the items are joined, so that n items take time n log n; one item alone, as most rules
 // have, is not joined.
-fn joined_by_halves<A: Addresses>(alloc: Global, items: &[A]) -> Result<AddrSet, NoMemory>
+fn joined_by_halves<A: StandsForAddresses>(alloc: Global, items: &[A]) -> Result<AddrSet, NoMemory>
     ensures { IfOk result (λ set. (a : Address) → IsAddress a →
         set_has set a ≡ list_any (λ item. A.stands_for item a) items.now) }
 {

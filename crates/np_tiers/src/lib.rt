@@ -7,8 +7,8 @@ mod carving;
 mod laws;
 mod layer;
 mod mark;
-mod part;
 mod run;
+mod tier_rule;
 mod verdict;
 
 pub use carving::carve;

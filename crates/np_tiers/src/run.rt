@@ -5,7 +5,7 @@ ghost use Rattle.np_tiers.specs.Runs.{first_action, first_allows, IsRun};
 ghost use Rattle.np_tiers.specs.declared.layer.Action.{Action as TierAction};
 
 use crate::layer::Action;
-use crate::part::Part;
+use crate::tier_rule::TierRule;
 use np_base::{Cells, NoMemory};
 use std::alloc::Global;
 
@@ -22,7 +22,7 @@ pub(crate) struct Run<S> {
 
 impl<S: Cells> Run<S> {
     /// The run of one part.
-    fn of_part<P: Part<S>>(alloc: Global, part: &P) -> Result<Run<S>, NoMemory>
+    fn of_part<P: TierRule<S>>(alloc: Global, part: &P) -> Result<Run<S>, NoMemory>
         ensures { IfOk result (IsRun S.has (λ spot.
             if S.has (P.set_of part.now) spot then Some (P.action_of part.now) else None)) }
     {
@@ -72,7 +72,10 @@ fn copy_if<S: Cells>(alloc: Global, set: &S, is_wanted: bool) -> Result<S, NoMem
 
 /// The run of a list of parts, of which there is one at least. The two halves of the list are put together, each
 /// made in the same way, so that n parts of a few ranges each take time n log n.
-pub(crate) fn run_of<S: Cells, P: Part<S>>(alloc: Global, parts: &[P]) -> Result<Run<S>, NoMemory>
+pub(crate) fn run_of<S: Cells, P: TierRule<S>>(
+    alloc: Global,
+    parts: &[P],
+) -> Result<Run<S>, NoMemory>
     requires { 0 < length parts.now }
     ensures { IfOk result (IsRun S.has (λ spot.
         first_action P.set_of P.action_of (λ set. S.has set spot) parts.now)) }

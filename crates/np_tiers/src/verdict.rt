@@ -4,8 +4,8 @@ ghost use Rattle.np_tiers.specs.Runs.{first_action, first_allows};
 ghost use Rattle.np_tiers.specs.Walk.{action_allows, lower_allows, walk_allows};
 
 use crate::layer::{Action, Layer};
-use crate::part::Part;
 use crate::run::run_of;
+use crate::tier_rule::TierRule;
 use np_base::{Cells, NoMemory, join_all};
 use std::alloc::Global;
 
@@ -45,7 +45,7 @@ fn lower_set<S: Cells>(alloc: Global, layer: &Layer<S>) -> Result<S, NoMemory>
 }
 
 // What a tier of these parts allows over lower tiers that allow `lower`.
-fn tier_set<S: Cells, P: Part<S>>(alloc: Global, parts: &[P], lower: S) -> Result<S, NoMemory>
+fn tier_set<S: Cells, P: TierRule<S>>(alloc: Global, parts: &[P], lower: S) -> Result<S, NoMemory>
     requires { S.IsWell lower }
     ensures members { IfOk result (λ made. (spot : S.Spot) →
         S.has made spot ≡ first_allows
@@ -64,7 +64,7 @@ fn tier_set<S: Cells, P: Part<S>>(alloc: Global, parts: &[P], lower: S) -> Resul
 }
 
 // The same, one part after the other from the last one on.
-fn few_parts_set<S: Cells, P: Part<S>>(parts: &[P], lower: &S) -> Result<S, NoMemory>
+fn few_parts_set<S: Cells, P: TierRule<S>>(parts: &[P], lower: &S) -> Result<S, NoMemory>
     ensures members { IfOk result (λ made. (spot : S.Spot) →
         S.has made spot ≡ first_allows
         (first_action P.set_of P.action_of (λ set. S.has set spot) parts.now) (S.has lower.now spot)) }
@@ -82,7 +82,7 @@ fn few_parts_set<S: Cells, P: Part<S>>(parts: &[P], lower: &S) -> Result<S, NoMe
 }
 
 // What a part and those after it allow, where those after it allow `after` and the tiers below `lower`.
-fn before<S: Cells, P: Part<S>>(part: &P, after: &S, lower: &S) -> Result<S, NoMemory>
+fn before<S: Cells, P: TierRule<S>>(part: &P, after: &S, lower: &S) -> Result<S, NoMemory>
     ensures members { IfOk result (λ made. (spot : S.Spot) →
         S.has made spot ≡ (if S.has (P.set_of part.now) spot
         then action_allows (P.action_of part.now) (S.has lower.now spot) else S.has after.now spot)) }

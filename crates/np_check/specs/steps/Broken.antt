@@ -2,7 +2,7 @@
 use Rattle.std.specs.Prelude.{ℕ, List, [], ◌∷◌, Bool, Option, None, Some, option_map, max, nat_le, if◌then◌else◌}
 use Rattle.np_addr.specs.Addresses.{family_of}
 use Rattle.np_addr.specs.Blocks.{AddressRanges}
-use Rattle.np_check.specs.Types.{Address, Broken, Counterexample, Family, Four, PortSpot, Range, Six, Wanted}
+use Rattle.np_check.specs.Types.{Address, BreakingAddress, Counterexample, Family, Four, PortSpot, Range, Six, Wanted}
 use Rattle.np_check.specs.Counterexamples.{addresses_of, breaks, number_of_address}
 use Rattle.np_check.specs.Firsts.{first_of, first_spot}
 use Rattle.np_check.specs.Order.{comes_before}
@@ -12,13 +12,13 @@ use Rattle.np_table.specs.declared.rows.AddressSpan.{AddressSpan}
 use Rattle.np_table.specs.declared.rows.AddressSpan.TheVariants as span
 
 -- the first packet with an address that breaks the statement, by a test of what passes
-abbrev pub broken_at : Wanted → Conns → (Family → ℕ → PortSpot → Bool) → Address → Option Broken
+abbrev pub broken_at : Wanted → Conns → (Family → ℕ → PortSpot → Bool) → Address → Option BreakingAddress
 broken_at wanted conns passes address =
     option_map (λ spot. record { address = address; spot = spot })
     (first_spot (breaks wanted conns (passes (family_of address) (number_of_address address))))
 
 -- the first of those with the addresses of a set
-unfoldable pub first_broken_of : Wanted → Conns → AddressRanges → (Family → ℕ → PortSpot → Bool) → Option Broken
+unfoldable pub first_broken_of : Wanted → Conns → AddressRanges → (Family → ℕ → PortSpot → Bool) → Option BreakingAddress
 first_broken_of wanted conns block passes = first_of (broken_at wanted conns passes) (addresses_of block)
 
 -- ---- range by range
@@ -40,12 +40,12 @@ abbrev pub first_within : AddressRanges → AddressSpan → Option Address
 first_within block (span.Four range) = option_map Four (first_number (λ a. a) block.first range.lo range.hi)
 first_within block (span.Six range) = option_map Six (first_number (λ a. a) block.second range.lo range.hi)
 
-abbrev pub with_spot : Option Address → Option PortSpot → Option Broken
+abbrev pub with_spot : Option Address → Option PortSpot → Option BreakingAddress
 with_spot None spot = None
 with_spot (Some address) spot = option_map (λ s. record { address = address; spot = s }) spot
 
 -- the first packet with an address of a set in a range that breaks the statement
-abbrev pub broken_in : Wanted → Conns → AddressRanges → AddressRow → Option Broken
+abbrev pub broken_in : Wanted → Conns → AddressRanges → AddressRow → Option BreakingAddress
 broken_in wanted conns block row = with_spot (first_within block row.span) (first_spot (breaks wanted conns (has_spot row.conns)))
 
 -- ---- packets from addresses

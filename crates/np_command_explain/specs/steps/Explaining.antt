@@ -1,6 +1,6 @@
 -- Ends that are there, and lines of the text of what decides between them.
 use Rattle.std.specs.Prelude.{◌≡◌, ◌<◌, ℕ, List, ◌++◌, length, codes, false, Option}
-use Rattle.np_command_explain.specs.Types.{AskedEnd, At, Direction, Egress, Ends, EstateLists, Explanation, Family, Ingress, Part, Shown, Work}
+use Rattle.np_command_explain.specs.Types.{AskedEnd, At, Direction, Egress, ExplainedEnds, EstateLists, Explanation, Family, Ingress, Part, Shown, Work}
 use Rattle.np_conns.specs.Conns.{has_spot}
 use Rattle.np_conns.specs.ConnsText.{conns_text}
 use Rattle.np_explain.specs.Sides.{are_one_pod}
@@ -21,7 +21,7 @@ HasPods folding (At address) = Unit {0}
 HasPods folding (Work number) = (number < length folding.workloads) × (0 < length (members_of folding number))
 
 -- both ends are there, and they are no one pod
-pub record AreEnds (lists : EstateLists) (ends : Ends) : Type 0 where
+pub record AreEnds (lists : EstateLists) (ends : ExplainedEnds) : Type 0 where
   pub source : IsEndOf lists ends.source
   pub destination : IsEndOf lists ends.destination
   pub apart : are_one_pod ends.source ends.destination ≡ false

@@ -1,7 +1,7 @@
 use Rattle.std.proofs.Common.{◌<◌, length, ap, ◌∙◌, rules}
 use Rattle.std.proofs.lemmas.Result.{IfOk-weaker}
 use Rattle.np_explain.proofs.SideLemmas.{keeps, net_at, net_policy_within, net_within}
-use Rattle.np_explain.proofs.side.Side.net_rule.Goals as goal
+use Rattle.np_explain.proofs.side.NamedSide.net_rule.Goals as goal
 use Rattle.np_explain.specs.Types.{EstateLists}
 use Rattle.np_rules.specs.PodSides.{PodSide}
 

@@ -3,7 +3,7 @@ use Rattle.std.proofs.lemmas.List.Elements.{All-get_or}
 use Rattle.np_reach.specs.Types.{Pod}
 use Rattle.np_reach.proofs.MarkLemmas.{item_behind, marked_by, row_right}
 use Rattle.np_reach.proofs.SpokenLemmas.{all_within}
-use Rattle.np_reach.proofs.reach.Sides.push_rows.Goals as goal
+use Rattle.np_reach.proofs.reach.SpokenSides.push_rows.Goals as goal
 use Rattle.np_reach.specs.Namespaces.{AreOfOneNamespace}
 use Rattle.np_reach.specs.Reach.{admin_reaches, may_reach, net_reaches}
 use Rattle.np_rules.specs.model.Ends.{pod, pod_end}

@@ -4,7 +4,7 @@ ghost use Rattle.std.specs.Prelude.{◌≡◌};
 use crate::layer::{Action, AdminPart, BasePart};
 
 /// A rule of a tier: the set of the spots that it matches, and what it says of them.
-pub(crate) trait Part<S> {
+pub(crate) trait TierRule<S> {
     ghost use Rattle.np_tiers.specs.declared.layer.Action.{Action};
 
     ghost set_of: { Self → S };
@@ -18,7 +18,7 @@ pub(crate) trait Part<S> {
         ensures { result ≡ action_of self.now };
 }
 
-impl<S> Part<S> for AdminPart<S> {
+impl<S> TierRule<S> for AdminPart<S> {
     ghost set_of = { λ part. part.set };
 
     ghost action_of = { λ part. part.action };
@@ -32,7 +32,7 @@ impl<S> Part<S> for AdminPart<S> {
     }
 }
 
-impl<S> Part<S> for BasePart<S> {
+impl<S> TierRule<S> for BasePart<S> {
     ghost use Rattle.np_tiers.specs.Runs.{base_action};
 
     ghost set_of = { λ part. part.set };

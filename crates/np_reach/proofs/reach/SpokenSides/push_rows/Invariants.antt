@@ -1,5 +1,5 @@
 use Rattle.std.proofs.Common.{◌≡◌, ◌++◌, map, take}
-use Rattle.np_reach.proofs.reach.Sides.push_rows.Given as goal
+use Rattle.np_reach.proofs.reach.SpokenSides.push_rows.Given as goal
 use Rattle.np_reach.specs.Reach.{may_reach}
 use Rattle.np_rules.specs.model.Ends.{pod, pod_end}
 

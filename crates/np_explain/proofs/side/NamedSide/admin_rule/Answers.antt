@@ -1,7 +1,7 @@
 use Rattle.std.proofs.Common.{◌<◌, length, ap, ◌∙◌, rules}
 use Rattle.std.proofs.lemmas.Result.{IfOk-weaker}
 use Rattle.np_explain.proofs.SideLemmas.{admin_at, admin_policy_within, admin_within, keeps}
-use Rattle.np_explain.proofs.side.Side.admin_rule.Goals as goal
+use Rattle.np_explain.proofs.side.NamedSide.admin_rule.Goals as goal
 use Rattle.np_explain.specs.Types.{EstateLists}
 use Rattle.np_rules.specs.PodSides.{PodSide}
 

@@ -10,7 +10,7 @@ use std::alloc::Global;
 
 /// A key that is mentioned on a side, with the values that are mentioned with it.
 #[derive(Drop)]
-pub(crate) struct Label {
+pub(crate) struct MentionedKey {
     pub side: Side,
     pub key: Text,
     /// In the order of their bytes, each once.
@@ -23,7 +23,7 @@ pub(crate) struct Label {
 pub(crate) fn labels_of(
     alloc: Global,
     mentions: &[SidedRequirement],
-) -> Result<Vec<Label>, NoMemory>
+) -> Result<Vec<MentionedKey>, NoMemory>
     ensures { IfOk result (λ made. made.items ≡ spec.labels_of mentions.now) }
 {
     let mut labels = Vec::new(alloc);
@@ -34,7 +34,7 @@ pub(crate) fn labels_of(
 
 // Adds the keys of a side.
 fn add_labels(
-    labels: &mut Vec<Label>,
+    labels: &mut Vec<MentionedKey>,
     mentions: &[SidedRequirement],
     side: Side,
 ) -> Result<(), NoMemory>
@@ -54,11 +54,11 @@ fn label_at(
     mentions: &[SidedRequirement],
     side: Side,
     key: &Text,
-) -> Result<Label, NoMemory>
+) -> Result<MentionedKey, NoMemory>
     ensures { IfOk result (λ made. made ≡ spec.label_at side mentions.now key.now) }
 {
     let values = values_at(alloc, mentions, side, key.as_str())?;
-    Ok(Label {
+    Ok(MentionedKey {
         side,
         key: key.copy()?,
         other: other_than(alloc, values.items())?,

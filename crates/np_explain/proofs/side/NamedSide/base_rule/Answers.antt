@@ -1,6 +1,6 @@
 use Rattle.std.proofs.Common.{◌<◌, length, rules}
 use Rattle.np_explain.proofs.SideLemmas.{base_at, base_name, base_within, keeps}
-use Rattle.np_explain.proofs.side.Side.base_rule.Goals as goal
+use Rattle.np_explain.proofs.side.NamedSide.base_rule.Goals as goal
 
 pub bounds-items-place : goal.bounds-items-place
 bounds-items-place c = base_within (keeps c.self.invariant.names c.self.view_is) c.args.place c.items.result.now c.items.ensures c.requires

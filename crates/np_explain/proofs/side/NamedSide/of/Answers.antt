@@ -1,6 +1,6 @@
 use Rattle.std.proofs.Common.{ap, ◌∙◌}
 use Rattle.np_explain.proofs.SideLemmas.{isolating_named, isolating_within}
-use Rattle.np_explain.proofs.side.Side.of.Goals as goal
+use Rattle.np_explain.proofs.side.NamedSide.of.Goals as goal
 use Rattle.np_explain.specs.Types.{EstateLists}
 
 pub net_policy_names-requires : goal.net_policy_names-requires

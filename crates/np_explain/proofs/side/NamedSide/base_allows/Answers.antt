@@ -1,6 +1,6 @@
 use Rattle.std.proofs.Common.{◌<◌, length, rules}
 use Rattle.np_explain.proofs.SideLemmas.{allow_at, allows_within, keeps}
-use Rattle.np_explain.proofs.side.Side.base_allows.Goals as goal
+use Rattle.np_explain.proofs.side.NamedSide.base_allows.Goals as goal
 
 pub bounds-items-place : goal.bounds-items-place
 bounds-items-place c = allows_within (keeps c.self.invariant.names c.self.view_is) c.args.place c.items.result.now c.items.ensures c.requires
