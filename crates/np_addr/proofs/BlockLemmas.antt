@@ -1,8 +1,7 @@
 -- Blocks of addresses. For `block_set`, `blocks_set` and 3 more.
-use Rattle.std.proofs.Common.{◌≡◌, ℕ, Bool, false, not, ◌&&◌, ◌||◌, nat_le, nat_lt, min, List, [], ◌∷◌, ◌++◌, take, length, get_or, ◌+◌, ◌-◌, ◌*◌, ◌/◌, ◌%◌, ◌^◌, ◌<◌, ◌≤◌, bit_and, Option, Some}
-use Rattle.std.proofs.Common.{None, IsSome, refl, sym, ap, ◌∙◌, one-mul, arith}
+use Rattle.std.proofs.Common.{◌≡◌, ℕ, Bool, false, not, ◌&&◌, ◌||◌, nat_le, nat_lt, min, List, [], ◌∷◌, ◌++◌, take, length, get_or, ◌+◌, ◌-◌, ◌*◌, ◌/◌, ◌%◌, ◌^◌, ◌<◌, ◌≤◌, bit_and}
+use Rattle.std.proofs.Common.{sym, ap, ◌∙◌, one-mul, arith}
 use Rattle.std.proofs.Math.Nat.{mul-mod_left, mul-le-mul_right, add-mul}
-use Rattle.std.specs.Option.{SomeIff}
 use Rattle.std.proofs.lemmas.Nat.{pow_pos, shr_below, shr_split, pow-add}
 use Rattle.std.proofs.lemmas.Nat.Bits.{and_high_mask}
 use Rattle.std.proofs.lemmas.List.{take_all}
@@ -28,11 +27,6 @@ cleared-mask bits n low within fits is =
 
 pub rest_of_cleared : (bits n : ℕ) → cleared bits n % 2 ^ bits ≡ 0
 rest_of_cleared bits n = mul-mod_left _ _
-
--- what is there where a fact holds
-pub IsSome-from : {T : Type 0} (o : Option T) (P : Type 0) (v : T) → SomeIff o P v → P → IsSome o
-IsSome-from None P v iff holds = absurd (iff holds)
-IsSome-from (Some x) P v iff holds = refl
 
 -- a block ends where its family does, or before
 pub block_end : (width len n : ℕ) → len ≤ width → n % 2 ^ (width - len) ≡ 0 → n < 2 ^ width → n + 2 ^ (width - len) ≤ 2 ^ width

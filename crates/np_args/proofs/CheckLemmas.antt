@@ -6,11 +6,11 @@ use Rattle.std.specs.List.{count_by, list_all}
 use Rattle.clap.proofs.OnLiterals.{clap_on_literals}
 use Rattle.clap.specs.Faults.{defaults_fault}
 use Rattle.clap.specs.Simple.{Shape, built}
-use Rattle.clap.specs.Walk.{Row, Walk, finished, first_of, walked}
+use Rattle.clap.specs.Walk.{Row, Walk, finished, walked}
 use Rattle.np_addr.specs.Steps.{◌>>=◌}
 use Rattle.np_args.proofs.BehindLemmas.{Holds, IsWalked, Makes, apart, faults_from, joined, optioned, row_of_value}
 use Rattle.np_args.proofs.FileLemmas.{TakesFiles, after, plain_words}
-use Rattle.np_args.specs.Arguments.{are_files, checked_files, files_in, is_standard_input, required_rule}
+use Rattle.np_args.specs.Arguments.{are_files, checked_files, is_standard_input, required_rule}
 use Rattle.np_args.specs.CheckWords.{check_command, check_job, check_of}
 use Rattle.np_args.specs.CommandLines.{job_of}
 use Rattle.np_args.specs.Laws.{is_plain, or_standard_input}
@@ -23,10 +23,6 @@ checked_of files statement = do
   one ← files
   two ← statement
   if are_files (two ∷ one) then Some (CheckJob two one) else None
-
-pub check_of-values : (rows : List Row) (files : Option (List Text)) (statement : Option Text) → files_in rows ≡ files → first_of (codes "statement") rows ≡ statement
-    → check_of rows ≡ checked_of files statement
-check_of-values rows files statement one two = rw (one, two) refl
 
 -- ---- words
 

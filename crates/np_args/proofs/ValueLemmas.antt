@@ -9,12 +9,11 @@ use Rattle.std.proofs.lemmas.Str.Pattern.{contains_char}
 use Rattle.std.specs.Bool.{then_some}
 use Rattle.std.specs.Char.{is_digit}
 use Rattle.std.specs.List.{list_all, list_any}
-use Rattle.std.specs.Option.{SomeIff}
 use Rattle.std.specs.Result.{result_ok}
 use Rattle.std.specs.Str.Parse.{AllDigits, ParsesUnsigned, digits_value}
 use Rattle.std.specs.Str.Pattern.{FindsChar}
 use Rattle.np_addr.specs.AddressGrammar.{address_of}
-use Rattle.np_args.specs.Values.{Text, end_of, number_to, port_of}
+use Rattle.np_args.specs.Values.{Text, end_of, number_to}
 use Rattle.np_args.specs.Types.{At, Named}
 
 -- ---- ends
@@ -115,11 +114,3 @@ number_to-parsed most word (Ok m) n reads unsigned first is =
     chosen false = refl
 
 -- ---- ports
-
--- every number from 1 to 65535 is a port
-pub port_of-number : (word : Text) (number : ℕ) (found : Option ℕ) → number_to 65535 word ≡ Some number → SomeIff found ((1 ≤ number) × (number ≤ 65535)) number
-    → found ≡ port_of word
-port_of-number word number (Some port) reads is = ap Some is.1 ∙ sym reads
-port_of-number word number None reads none =
-    let number_is = IsNumber-from_word 65535 word number reads in
-    absurd (none (number_is.low, number_is.high))

@@ -1,14 +1,11 @@
 -- What was written of a reply. For crates above.
-use Rattle.std.proofs.Common.{◌≡◌, ℕ, List, Result, Ok, Err, ap, subst, sym, ◌∙◌}
+use Rattle.std.proofs.Common.{◌≡◌, ℕ, List, Result, Err, ap, ◌∙◌}
 use Rattle.np_command.proofs.SinkLemmas.{TookLess-kept}
 use Rattle.np_command.specs.Prints.{text_in, Wrote}
-use Rattle.np_command.specs.Failures.{write_failure}
 use Rattle.np_command.specs.Inputs.{Refuses}
 use Rattle.np_command.specs.Sinks.{IsKept, SinkTrace}
-use Rattle.np_command.specs.Written.{Writes}
 use Rattle.np_command.specs.Types.{CannotRead, CannotWrite, Failure, Fault, NoMemory, Refused, TooLarge, Usage, WriteFault}
 use Rattle.np_command.specs.declared.write_fault.WriteFault.TheVariants as unwritten
-use Rattle.np_io.specs.Taken.{TookLess}
 
 -- Where a step finds a fault, nothing is written of a reply that has that fault then.
 pub Wrote-refused : {X : Type 0} (out : SinkTrace) (reply : Result X Fault → Result (List ℕ) Fault) (found : Result X Fault) (failure : Failure) → ((fault : Fault) → reply (Err fault) ≡ Err fault) →
@@ -19,9 +16,3 @@ Wrote-refused out reply found Usage stands refuses kept = absurd refuses
 Wrote-refused out reply found TooLarge stands refuses kept = absurd refuses
 Wrote-refused out reply found (CannotRead name) stands refuses kept = absurd refuses
 Wrote-refused out reply found CannotWrite stands refuses kept = absurd refuses
-
--- a text that is not written whole
-pub Wrote-unwritten : (out : SinkTrace) (reply : Result (List ℕ) Fault) (text : List ℕ) (fault : WriteFault) → reply ≡ Ok text → Writes out text (Err fault) →
-    Wrote out reply (Err (write_failure fault))
-Wrote-unwritten out reply text unwritten.SinkFailed is wrote = record { text = text; is = is; took = wrote.0; rose = wrote.1 }
-Wrote-unwritten out reply text unwritten.NoMemory is wrote = subst (TookLess out.before out.after) (sym (ap text_in is)) wrote

@@ -7,11 +7,8 @@ use Rattle.std.proofs.lemmas.Grind.{flat_map-append}
 use Rattle.std.proofs.lemmas.List.Elements.{All-from_recursion}
 use Rattle.std.specs.List.{AllByRecursion, range_with_len}
 use Rattle.np_base.proofs.Lists.{drop-ended}
-use Rattle.np_command.specs.Inputs.{Refuses}
 use Rattle.np_command_exposure.specs.Report.{both_sides, first_fault, nothing_unless, or_later, side_rows, weight_at, weight_fault}
 use Rattle.np_command_exposure.specs.Types.{EstateLists, Fault, RowText, ShownSide}
-use Rattle.np_command.specs.declared.failure.Failure.{Failure}
-use Rattle.np_command.specs.declared.failure.Failure.TheVariants.{Usage, TooLarge, Refused, CannotRead, CannotWrite, NoMemory}
 use Rattle.np_exposure.specs.declared.exposures.TheConstants.{MOST_PATTERNS}
 use Rattle.np_report.proofs.LineLemmas.{is_some_row, text_to_come-rows}
 use Rattle.np_report.specs.Forms.{Form, lines_of, text_to_come}
@@ -54,16 +51,6 @@ sides-there lists count sides all is =
     subst of (sym is) (All-from_recursion (λ (side : ShownSide). IsWorkload lists side.workload) (flat_map both_sides (range_with_len 0 count)) each)
 
 -- ---- faults
-
--- where the first side has a fault it is the first of all
-pub refuses-first : (failure : Failure) (found later : Option Fault) → Refuses failure (nothing_unless found) → Refuses failure (nothing_unless (or_later found later))
-refuses-first failure (Some fault) later is = is
-refuses-first NoMemory None later is = tt
-refuses-first (Refused fault) None later is = absurd (cc)
-refuses-first Usage None later is = is
-refuses-first (CannotRead name) None later is = is
-refuses-first TooLarge None later is = is
-refuses-first CannotWrite None later is = is
 
 -- a side without a fault has few patterns
 pub few-at : (lists : EstateLists) (side : ShownSide) → weight_fault lists side ≡ None → weight_at lists side ≤ MOST_PATTERNS

@@ -1,14 +1,10 @@
 -- The digits of a number are bytes of words, and none is a slash. For ItemLemmas.
-use Rattle.std.proofs.Common.{◌≡◌, ◌≢◌, ℕ, suc, length, ◌^◌, ◌<◌, ◌≤◌, ◌==◌, List, [], ◌∷◌, true, false, decimal, refl, arith, ne_eqb, le-leb}
-use Rattle.std.proofs.lemmas.Bool.{lt-leb}
+use Rattle.std.proofs.Common.{◌≡◌, ◌≢◌, ℕ, suc, length, ◌^◌, ◌<◌, ◌==◌, List, [], ◌∷◌, true, false, decimal, refl, arith, ne_eqb}
 use Rattle.std.proofs.lemmas.Fmt.{decimal_is_IsNumeral}
 use Rattle.std.specs.Str.Parse.{AllDigits}
 use Rattle.np_base.proofs.Texts.{digit_range}
 use Rattle.np_model.specs.Words.{has_slash, is_name, is_word, is_word_byte}
 use Rattle.np_model.proofs.WordLemmas.{decimal-word}
-
-digit_byte : (d : ℕ) → 48 ≤ d → d ≤ 57 → is_word_byte d ≡ true
-digit_byte d least most = rw (lt-leb 65 d (omega arith), lt-leb 97 d (omega arith), le-leb 48 d least, le-leb d 57 most) refl
 
 no_slash_in_digits : (ds : List ℕ) → AllDigits 10 ds → has_slash ds ≡ false
 no_slash_in_digits [] digits = refl

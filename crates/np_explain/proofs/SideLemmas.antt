@@ -1,10 +1,10 @@
 -- The names that are kept of a side, place by place. For `NamedSide::admin_allows`, `NamedSide::admin_rule` and 5 more.
-use Rattle.std.proofs.Common.{◌≡◌, ℕ, zero, suc, ◌+◌, ◌<◌, List, [], ◌∷◌, ◌++◌, Bool, codes, filter, length, get_or, map, take, All, Option, Some, refl, sym, ap, ◌∙◌, subst, inl, inr, arith}
+use Rattle.std.proofs.Common.{◌≡◌, ℕ, zero, suc, ◌+◌, ◌<◌, List, [], ◌∷◌, ◌++◌, Bool, codes, filter, length, get_or, map, take, All, Option, Some, refl, sym, ap, ◌∙◌, subst, arith}
 use Rattle.std.specs.List.{slice_get}
-use Rattle.std.specs.Option.{option_map, option_map_or}
+use Rattle.std.specs.Option.{option_map_or}
 use Rattle.std.proofs.lemmas.List.{map-append, take_more}
 use Rattle.std.proofs.lemmas.List.Elements.{All-cons, All-nil}
-use Rattle.std.proofs.lemmas.Option.{slice_get_cases, slice_get_read, slice_get_within}
+use Rattle.std.proofs.lemmas.Option.{slice_get_read, slice_get_within}
 use Rattle.np_base.proofs.Lists.{slice_get-some}
 use Rattle.np_base.proofs.Options.{some_is}
 use Rattle.np_explain.proofs.PlaceLemmas.{at_place}
@@ -147,14 +147,6 @@ base_name policy id placed is named =
     ap of_policy is ∙ ap of_place named.place
 
 -- ---- what is found at the places of a mark
-
-pub pass_found : (side : PodSide) (place : ℕ) (rule : RuleName) → place < length (admin_rules side) →
-    ((placed : PlacedAdminRule) → slice_get (admin_rules side) place ≡ Some placed → rule ≡ admin_rule_name placed) → Some rule ≡ pass_name side (Some place)
-pass_found side place rule within named =
-    elim (slice_get_cases (admin_rules side) place).1 [
-      | inl there ↦ ap {A = RuleName} Some (named there.0 there.2) ∙ ap (option_map admin_rule_name) (sym there.2)
-      | inr past ↦ absurd (omega (arith, past.0))
-    ]
 
 pub admin_found : (side : PodSide) (place : ℕ) (rule : RuleName) (allow : Bool) → place < length (admin_rules side) →
     ((placed : PlacedAdminRule) → slice_get (admin_rules side) place ≡ Some placed → rule ≡ admin_rule_name placed) →

@@ -14,10 +14,6 @@ use Rattle.np_rules.specs.PodSides.{PodSide}
 
 -- ---- a requirement of a key with one choice
 
-never-both : (b : Bool) → (b && not b) ≡ false
-never-both true = refl
-never-both false = refl
-
 none-behind : (a b more others : Bool) → (a && b) ≡ false → ((a && more) && (b && others)) ≡ false
 none-behind true true more others none = absurd (true≢false none)
 none-behind true false true others none = refl

@@ -38,9 +38,6 @@ contains_key-has_address [] address = refl
 contains_key-has_address (key ∷ keys) address =
     ap (λ first. first || contains_key keys address) (is_eq-order address key) ∙ ap (λ rest. is_same key address || rest) (contains_key-has_address keys address)
 
-pub HaveSame-none : (keys : List Address) → keys ≡ [] → HaveSame [] keys
-HaveSame-none keys none = record { same = λ address. ap (λ found. has_address found address) none }
-
 -- an address is added to the set exactly where it is not kept yet
 pub kept_with-added : (kept keys : List Address) (found : Option Address) (address : Address) (added is_new : Bool) → HaveSame kept keys → found ≡ Some address →
     added ≡ not (contains_key keys address) → added ≡ is_new → kept_with kept found ≡ (if is_new then kept ++ address ∷ [] else kept)

@@ -25,10 +25,6 @@ ReadsOnly-Ok p x is = record { output = λ y same. let equal : x ≡ y = cc in s
 pub ReadsOnly-Err : {A : Type 0} (p : A → Bool) (flaw : Flaw) → ReadsOnly p (Err flaw)
 ReadsOnly-Err p flaw = record { output = λ y same. cc }
 
--- any value is read
-pub ReadsOnly-any : {A : Type 0} (read : Read A) → ReadsOnly (λ _. true) read
-ReadsOnly-any read = record { output = λ y same. refl }
-
 -- one line after another, of which the first gives a value
 pub ReadsOnly-bind : {A B : Type 0} (p : A → Bool) (q : B → Bool) (read : Read A) (rest : A → Read B) → ReadsOnly p read → ((x : A) → p x ≡ true → ReadsOnly q (rest x)) → ReadsOnly q (read >>= rest)
 ReadsOnly-bind p q (Ok x) rest is next = next x (is.output x refl)

@@ -48,11 +48,6 @@ place_of-push items one name =
     ∙ ap (λ n. option_or (position_from test 0 items) (cond (test one) (Some n) None)) (zero-add (length items))
     ∙ ap (λ o. option_or o (cond (test one) (Some (length items)) None)) (sym (position_from-zero test items))
 
--- an item without a name leaves the places as they are
-pub HoldsPlaces-unnamed : (earlier : List Item) (one : Item) (entries : List (ObjectName × ℕ)) → name_of one ≡ None → HoldsPlaces earlier entries → HoldsPlaces (earlier ++ one ∷ []) entries
-HoldsPlaces-unnamed earlier one entries unnamed places name =
-    places name ∙ sym (place_of-push earlier one name ∙ rw unnamed (option_or-none (place_of earlier name)))
-
 -- and one of a new name has its own place
 pub HoldsPlaces-named : (earlier : List Item) (one : Item) (name : ObjectName) (before after : List (ObjectName × ℕ)) (place : ℕ) → length earlier ≡ place → name_of one ≡ Some name →
     noted_place before name ≡ None

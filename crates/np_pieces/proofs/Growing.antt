@@ -5,7 +5,7 @@ use Rattle.np_base.proofs.Bools.{not_itself}
 use Rattle.np_pieces.specs.Types.{Piece}
 use Rattle.np_pieces.specs.Pieces.{is_in, value_at, ArePieces}
 use Rattle.np_pieces.specs.Steps.{IsWith}
-use Rattle.np_pieces.specs.Values.{is_in-inside, is_in-before, value_at-first, value_at-past}
+use Rattle.np_pieces.specs.Values.{is_in-inside, is_in-before, value_at-past}
 
 -- one more piece changes nothing before it
 value_at-push_before : {P S : Type 0} (number_of : P → ℕ) (pieces : List (Piece P S)) (next : Piece P S) (n : ℕ) → n < number_of next.lo →
@@ -63,15 +63,6 @@ value_at-widened : {P S : Type 0} (number_of : P → ℕ) (pieces : List (Piece 
     value_at number_of (pieces ++ widened last hi ∷ []) n ≡ value_at number_of (pieces ++ last ∷ []) n
 value_at-widened number_of [] last hi n old new = rw (le-leb n (number_of last.hi) old, le-leb n (number_of hi) new)
 value_at-widened number_of (piece ∷ pieces) last hi n old new = rw (value_at-widened number_of pieces last hi n old new)
-
--- the first piece of a list
-pub IsWith-none : {P S : Type 0} (number_of : P → ℕ) (IsWell : S → Type 0) (pieces : List (Piece P S)) (next : Piece P S) (made : List (Piece P S)) → pieces ≡ [] → made ≡ [] →
-    IsWith number_of IsWell pieces next (made ++ next ∷ [])
-IsWith-none number_of IsWell pieces next made is_none none filled well from are = record {
-  order = rw none (record { start = sym (rw is_none at are); filled = omega (arith, rw is_none at are); well = well; differs = λ same. cc }, refl);
-  before = λ n below. rw (none, is_none, is_in-before number_of next n below);
-  within = λ n above below. rw none (value_at-first number_of next [] n above (omega arith));
-}
 
 -- a piece of another value
 pub IsWith-pushed : {P S : Type 0} (number_of : P → ℕ) (IsWell : S → Type 0) (pieces front : List (Piece P S)) (last next : Piece P S) → pieces ≡ front ++ last ∷ [] → last.value ≢ next.value →

@@ -50,15 +50,6 @@ GoOn-ended number_of IsWell from to before (first ∷ first_rest) second second_
   second_after = after;
 }
 
--- lists that go on end together
-pub GoOn-left_ended : {P S : Type 0} (number_of : P → ℕ) (IsWell : S → Type 0) (from to : ℕ) (left right : List (Piece P S)) → length left ≡ 0 → GoOn number_of IsWell from to left right → from ≡ to
-GoOn-left_ended number_of IsWell from to [] [] ended on = on
-GoOn-left_ended number_of IsWell from to [] (second ∷ second_rest) ended on = absurd on
-GoOn-left_ended number_of IsWell from to (first ∷ first_rest) right ended on = absurd (omega arith)
-
-pub GoOn-right_ended : {P S : Type 0} (number_of : P → ℕ) (IsWell : S → Type 0) (from to : ℕ) (left right : List (Piece P S)) → length right ≡ 0 → GoOn number_of IsWell from to left right → from ≡ to
-GoOn-right_ended number_of IsWell from to left right ended on = GoOn-left_ended number_of IsWell from to right left ended (GoOn-flipped number_of IsWell from to left right on)
-
 -- What is left of a list past the number `hi` of its first piece.
 pub record IsPast {P S : Type 0} (number_of : P → ℕ) (hi : ℕ) (first : Piece P S) (rest after : List (Piece P S)) : Type 0 where
   pub ended : number_of first.hi ≤ hi → after ≡ rest

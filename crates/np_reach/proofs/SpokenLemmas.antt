@@ -8,7 +8,7 @@ use Rattle.std.proofs.lemmas.Bool.{cases_lt, le-ltb, lt-ltb}
 use Rattle.std.proofs.lemmas.List.{get_or-replicate, length-append, length-map}
 use Rattle.std.proofs.lemmas.List.Elements.{All-push}
 use Rattle.std.proofs.lemmas.List.Folds.{list_any-append}
-use Rattle.std.proofs.lemmas.Option.{slice_get-map, slice_get_past, slice_get_within, unwrap_or-slice_get}
+use Rattle.std.proofs.lemmas.Option.{slice_get-map, slice_get_past, unwrap_or-slice_get}
 use Rattle.std.proofs.Math.Bool.{or-false, or_assoc}
 use Rattle.np_reach.specs.Marks.{AreWithin, IsSpoken, marks_at, speaks_at}
 use Rattle.np_reach.specs.Reach.{has_place}
@@ -63,9 +63,6 @@ within_more (marks ∷ far) count more up within zero d low = omega (arith, up, 
 within_more (marks ∷ far) count more up within (suc k) d low = within_more far count more up (λ n e below. within (suc n) e (omega (arith, below))) k d (omega (arith, low))
 
 -- ---- one stretch more
-
-pub nothing_spoken : {X : Type 0} (speaks : X → Bool) → IsSpoken speaks [] []
-nothing_spoken speaks = record { within = λ k d low. absurd (omega (arith, low)); say = λ place x at. absurd (omega (arith, slice_get_within [] place x at)) }
 
 module _ {X : Type 0} (speaks : X → Bool) (front pods : List X) (far : List Marks) (is : IsSpoken speaks front far) where
   -- what is said of a pod in front

@@ -6,8 +6,7 @@ use Rattle.std.specs.Cmp.Lexicographic.{bytes_decides}
 use Rattle.std.proofs.Math.Seq.{take-add}
 use Rattle.std.proofs.lemmas.Bool.{and_parts, cases_lt, false≢true}
 use Rattle.std.proofs.lemmas.Grind.{flat_map-append}
-use Rattle.std.proofs.lemmas.List.{append-nil, drop_more, length-take-le, take_all, take_more}
-use Rattle.std.proofs.lemmas.List.Elements.{All-push}
+use Rattle.std.proofs.lemmas.List.{append-nil, drop_more, length-take-le, take_all}
 use Rattle.std.proofs.lemmas.Option.{none-some, same_Some}
 use Rattle.np_labels.specs.declared.pair.Pair.{Pair}
 use Rattle.np_reach.proofs.SpokenLemmas.{in_back, in_front}
@@ -61,11 +60,6 @@ first_and {X} P xs rest others own from count one within at rest_is others_is ow
     all : All P (one ∷ take count others)
     all zero d low = here
     all (suc k) d low = behind k d (omega (arith, low))
-
--- one more that is alike
-pub alike_more : {X : Type 0} (P : X → Type 0) (xs : List X) (i : ℕ) (x : X) → i < length xs → x ≡ get_or xs i x → P x → All P (take i xs) → All P (take (i + 1) xs)
-alike_more {X} P xs i x within is here before =
-    subst (All P) (sym (take_more xs i x within ∙ ap (λ (last : X). take i xs ++ last ∷ []) (sym is))) (All-push P (take i xs) x before here)
 
 -- equal labels
 pub same_pairs : (xs ys : List Pair) → pointwise (λ (a b : Pair). pointwise nat_eq a.key b.key && pointwise nat_eq a.value b.value) xs ys ≡ true → xs ≡ ys

@@ -1,5 +1,5 @@
 -- The bytes of several rows, and what comes behind them. For crates above.
-use Rattle.std.proofs.Common.{◌≡◌, ℕ, List, [], ◌∷◌, ◌++◌, Bool, true, false, ◌||◌, append_assoc, ap, subst, sym, ◌∙◌}
+use Rattle.std.proofs.Common.{◌≡◌, ℕ, List, [], ◌∷◌, ◌++◌, Bool, true, false, ◌||◌, append_assoc, ap, sym, ◌∙◌}
 use Rattle.std.proofs.Math.Bool.{or-false, or-true}
 use Rattle.np_report.specs.Forms.{Form, lines_of, text_to_come}
 use Rattle.np_report.specs.Types.{RowText}
@@ -17,10 +17,3 @@ text_to_come-rows form came (row ∷ rows) more =
     ap (λ (rest : List ℕ). form.row came row ++ rest) (text_to_come-rows form true rows more)
     ∙ sym (append_assoc (form.row came row) (lines_of form true rows) (text_to_come form true more))
     ∙ ap (λ (b : Bool). (form.row came row ++ lines_of form true rows) ++ text_to_come form b more) (sym (or-true came))
-
--- the lines so far and those of the others are those of all
-pub lines-next : (form : Form) (came : Bool) (row : RowText) (rows : List RowText) (so_far line whole : List ℕ) → line ≡ form.row came row
-    → so_far ++ lines_of form came (row ∷ rows) ≡ whole → (so_far ++ line) ++ lines_of form true rows ≡ whole
-lines-next form came row rows so_far line whole is all =
-    let joined : (so_far ++ form.row came row) ++ lines_of form true rows ≡ whole = append_assoc so_far (form.row came row) (lines_of form true rows) ∙ all in
-    subst (λ (bytes : List ℕ). (so_far ++ bytes) ++ lines_of form true rows ≡ whole) (sym is) joined

@@ -58,22 +58,6 @@ abbrev named_own : PortName → ℕ → Option (List ℕ) → Bool
 named_own (Number named) number name = number == named
 named_own (Named named) number name = option_map_or (λ own. bytes_eq own named) name false
 
--- they are added
-pub number-own : (before middle : PortName → Bool) (port : ServicePort) → port.name ≡ None → ((other : PortName) → middle other ≡ (before other || is_same_port (Number port.port) other))
-    → (other : PortName) → middle other ≡ (before other || is_named_by other port)
-number-own before middle port none number (Number other) = number (Number other)
-number-own before middle port none number (Named other) = number (Named other) ∙ ap (λ (own : Option (List ℕ)). before (Named other) || option_map_or (λ text. bytes_eq text other) own false)
-    (sym none)
-
-pub name-own : (before middle after : PortName → Bool) (port : ServicePort) (name : List ℕ) → port.name ≡ Some name →
-    ((other : PortName) → middle other ≡ (before other || is_same_port (Number port.port) other)) → ((other : PortName) → after other ≡ (middle other || is_same_port (Named name) other))
-    → (other : PortName) → after other ≡ (before other || is_named_by other port)
-name-own before middle after port name is number named (Number other) = named (Number other) ∙ or-false (middle (Number other)) ∙ number (Number other)
-name-own before middle after port name is number named (Named other) =
-    named (Named other)
-    ∙ ap (λ (b : Bool). b || bytes_eq name other) (number (Named other) ∙ or-false (before (Named other)))
-    ∙ ap (λ (own : Option (List ℕ)). before (Named other) || option_map_or (λ text. bytes_eq text other) own false) (sym is)
-
 -- they are held after one more is where they were, or are named by it
 own-held : (before after : PortName → Bool) (named : PortName) (number : ℕ) (name : Option (List ℕ)) → ((other : PortName) → after other ≡ (before other || is_same_port named other))
     → held_own after number name ≡ (held_own before number name || named_own named number name)

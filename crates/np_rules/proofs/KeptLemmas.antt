@@ -1,9 +1,7 @@
 -- Rules that match no address may be left out of a layer for addresses. For `PodRules::address_set`, `joined_set` and crates above.
-use Rattle.std.proofs.Common.{◌≡◌, ℕ, ◌+◌, ◌<◌, List, [], ◌∷◌, ◌++◌, Bool, true, false, append-nil, filter, find, get_or, length, map, take, Option, refl, sym, ap, subst, ◌∙◌, if◌then◌else◌}
+use Rattle.std.proofs.Common.{◌≡◌, ℕ, List, [], ◌∷◌, Bool, true, false, filter, find, map, Option, refl, sym, ap, subst, ◌∙◌, if◌then◌else◌}
 use Rattle.std.specs.List.{list_any}
 use Rattle.std.proofs.lemmas.Bool.{and_left, false≢true, or_from, or_parts}
-use Rattle.std.proofs.lemmas.List.{map-append, take_more}
-use Rattle.std.proofs.lemmas.List.Elements.{filter-append}
 use Rattle.np_rules.specs.Types.{Address, AdminPeer, AdminRule, Family, Layer, NetPeer, NetRule}
 use Rattle.np_model.specs.declared.admin_policy.AdminPeer.TheVariants as admin
 use Rattle.np_model.specs.declared.network_policy.NetPeer.TheVariants as net
@@ -78,31 +76,6 @@ images_kept {X} {Y} f g keep (x ∷ xs) same = go (keep x) (images_kept f g keep
     go : (b : Bool) → map f (filter keep xs) ≡ map g (filter keep xs) → map f (if b then x ∷ filter keep xs else filter keep xs) ≡ map g (if b then x ∷ filter keep xs else filter keep xs)
     go true rest = ap (λ (y : Y). y ∷ map f (filter keep xs)) first ∙ ap (λ (ys : List Y). g x ∷ ys) rest
     go false rest = rest
-
--- one rule more that is kept, and one that is left out
-next_is : {X Y : Type 0} (see : X → Y) (keep : Y → Bool) (xs : List X) (i : ℕ) (x : X) → i < length xs → x ≡ get_or xs i x →
-    filter keep (map see (take (i + 1) xs)) ≡ filter keep (map see (take i xs)) ++ (if keep (see x) then see x ∷ [] else [])
-next_is {X} see keep xs i x within is =
-    ap (λ (front : List X). filter keep (map see front)) (take_more xs i x within ∙ ap (λ (last : X). take i xs ++ last ∷ []) (sym is))
-    ∙ ap (filter keep) (map-append see (take i xs) (x ∷ []))
-    ∙ filter-append keep (map see (take i xs)) (see x ∷ [])
-
-pub kept_next : {X Y : Type 0} (see : X → Y) (keep : Y → Bool) (xs : List X) (i : ℕ) (x : X) (made new : List X) → i < length xs → x ≡ get_or xs i x → new ≡ made ++ x ∷ [] → keep (see x) ≡ true →
-    map see made ≡ filter keep (map see (take i xs)) → map see new ≡ filter keep (map see (take (i + 1) xs))
-kept_next {X} {Y} see keep xs i x made new within is pushed passes so_far =
-    ap (map see) pushed
-    ∙ map-append see made (x ∷ [])
-    ∙ ap (λ (ys : List Y). ys ++ see x ∷ []) so_far
-    ∙ ap (λ (b : Bool). filter keep (map see (take i xs)) ++ (if b then see x ∷ [] else [])) (sym passes)
-    ∙ sym (next_is see keep xs i x within is)
-
-pub left_next : {X Y : Type 0} (see : X → Y) (keep : Y → Bool) (xs : List X) (i : ℕ) (x : X) (made : List X) → i < length xs → x ≡ get_or xs i x → keep (see x) ≡ false →
-    map see made ≡ filter keep (map see (take i xs)) → map see made ≡ filter keep (map see (take (i + 1) xs))
-left_next {X} {Y} see keep xs i x made within is fails so_far =
-    so_far
-    ∙ sym (append-nil (filter keep (map see (take i xs))))
-    ∙ ap (λ (b : Bool). filter keep (map see (take i xs)) ++ (if b then see x ∷ [] else [])) (sym fails)
-    ∙ sym (next_is see keep xs i x within is)
 
 -- ---- the layer
 

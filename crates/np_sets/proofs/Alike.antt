@@ -1,13 +1,8 @@
 -- Lists of ranges between the same numbers. For `same_ranges`.
-use Rattle.std.proofs.Common.{◌≡◌, ℕ, List, [], ◌∷◌, length, true, false, ◌==◌, refl, arith}
+use Rattle.std.proofs.Common.{◌≡◌, ℕ, List, [], ◌∷◌, length, false, ◌==◌, refl, arith}
 use Rattle.std.proofs.lemmas.Bool.Decides.{nat_tests}
 use Rattle.np_base.specs.declared.range.Range.{Range}
 use Rattle.np_sets.specs.Alike.{is_alike, are_alike}
-
--- past equal first ranges, the rests tell
-pub are_alike-rest : {P : Type 0} (number_of : P → ℕ) (left right : List (Range P)) (a b : Range P) (a_rest b_rest : List (Range P)) → left ≡ a ∷ a_rest → right ≡ b ∷ b_rest →
-    is_alike number_of a b ≡ true → are_alike number_of a_rest b_rest ≡ are_alike number_of left right
-are_alike-rest number_of left right a b a_rest b_rest is_left is_right same = rw (is_left, is_right, same)
 
 -- two first ranges that differ decide
 pub are_alike-apart : {P : Type 0} (number_of : P → ℕ) (left right : List (Range P)) (a b : Range P) (a_rest b_rest : List (Range P)) → left ≡ a ∷ a_rest → right ≡ b ∷ b_rest →

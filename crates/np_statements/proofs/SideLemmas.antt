@@ -125,9 +125,3 @@ behind_is mark tail text named behind found end rest marked named_first first fo
     let (x, lacks, side) = named_side mark tail text named end rest named_first before spelled in
     past_tail tail behind rest found before.apart found_last
     (after_first mark tail x rest first.front behind marked lacks (first.first x rest side) (sym side ∙ first.spelled))
-
--- and the mark is somewhere
-pub mark_is_there : (mark tail text named end rest : List ℕ) → IsWithout (codes "workload ") text named → Lacks named mark → IsBefore mark tail end rest → text ≡ end ++ (mark ++ rest) → ⊥
-mark_is_there mark tail text named end rest named_is none before spelled =
-    let (x, lacks, side) = named_side mark tail text named end rest named_is before spelled in
-    none x rest side

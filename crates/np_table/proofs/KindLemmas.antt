@@ -10,7 +10,7 @@ use Rattle.np_model.specs.Lawful.{IsLawful}
 use Rattle.np_fold.specs.Workloads.{Folding, folding_of}
 use Rattle.np_table.proofs.RangeSets.{conns_of-agrees, conns_of-has_spot}
 use Rattle.np_table.specs.Right.{are_same_conns, conns_of}
-use Rattle.np_table.proofs.DueLemmas.{greatest-at, over-source, same_source, source-behind}
+use Rattle.np_table.proofs.DueLemmas.{greatest-at, same_source, source-behind}
 use Rattle.np_table.proofs.KeptLemmas.{cached_count-below}
 use Rattle.np_kinds.proofs.KindNumbers.{kinds-by}
 use Rattle.np_kinds.proofs.PairLemmas.{pair_allows-alone, pair_allows-kinds}
@@ -18,7 +18,7 @@ use Rattle.np_table.specs.RowCache.{IsCached, CachesAlso, CachesTheSame, cached_
 use Rattle.np_table.specs.Rows.{is_nothing, pair_key, pair_rows, row_if, rows_in, rows_of_both}
 use Rattle.np_kinds.specs.Between.{is_alone, pair_allows}
 use Rattle.np_table.specs.Table.{table_of}
-use Rattle.np_table.specs.ToCome.{IsOfSameSource, most_rules, rules_of}
+use Rattle.np_table.specs.ToCome.{most_rules, rules_of}
 
 -- ---- rows with other ends
 
@@ -217,9 +217,3 @@ pub IsCached-behind : (lists : EstateLists) (folding : Folding) (place : ℕ) (k
     IsCached lists folding (place / length folding.workloads) kept
 unfolding IsCached
 IsCached-behind lists folding place kept up destination conns near far alone is = absurd (source-behind (length folding.workloads) place up near)
-
--- for a later place of the same source the same is kept
-pub IsCached-over : (lists : EstateLists) (folding : Folding) (place later : ℕ) (kept : List (Option (List CachedConns))) → IsOfSameSource (length folding.workloads) place later →
-    IsCached lists folding (place / length folding.workloads) kept → IsCached lists folding (later / length folding.workloads) kept
-IsCached-over lists folding place later kept same is =
-    subst (λ (source : ℕ). IsCached lists folding source kept) (sym (over-source (length folding.workloads) place later same)) is

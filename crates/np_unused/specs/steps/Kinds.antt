@@ -23,10 +23,6 @@ pub record AreKindPodsOf (lists : EstateLists) (pods : ℕ) (kinds : List KindPo
   pub count : length kinds ≡ length (folding_of lists).first_of_kinds
   pub each : (kind : ℕ) (one : KindPod) → slice_get kinds kind ≡ Some one → IsKindPodOf lists pods kind one
 
--- so it is among all pods
-abbrev pub IsKindPod : EstateLists → ℕ → KindPod → Type 0
-IsKindPod lists kind one = IsKindPodOf lists (length lists.pods) kind one
-
 abbrev pub AreKindPods : EstateLists → List KindPod → Type 0
 AreKindPods lists kinds = AreKindPodsOf lists (length lists.pods) kinds
 
