@@ -2,15 +2,11 @@
 #![tactic(auto)]
 
 ghost use Rattle.std.specs.Prelude.{◌≡◌, ◌<◌, ℕ};
-ghost use Rattle.np_cli.specs.Bytes.{Bytes};
-ghost use Rattle.np_cli.specs.Counts.{Counted};
-ghost use Rattle.np_cli.specs.Promises.{Promises};
-ghost use Rattle.np_cli.specs.Runs.{ran};
-ghost use Rattle.np_command.specs.Sinks.{sunk};
-ghost use Rattle.np_frame.specs.Sources.{sourced};
-ghost use Rattle.np_command.specs.Statuses.{code_of};
+ghost use Rattle.np_cli.specs.Prelude.{Bytes, Counted, Promises, ran};
+ghost use Rattle.np_command.specs.Prelude.{code_of, sunk};
+ghost use Rattle.np_frame.specs.Prelude.{sourced};
 ghost use Rattle.np_command.specs.declared.status.Status.{Status as SpecStatus};
-ghost use Rattle.np_args.specs.CommandLines.{asked_by};
+ghost use Rattle.np_args.specs.Prelude.{asked_by};
 
 use np_base::Steps;
 use np_cli::{Status, np_main};

@@ -2,14 +2,11 @@
 use Rattle.std.proofs.Common.{◌≡◌, ℕ, ◌+◌, ◌-◌, ◌%◌, ◌^◌, ◌≤◌, false, ◌&&◌, nat_le, nat_lt, refl, ap, ◌∙◌, arith}
 use Rattle.std.proofs.lemmas.Bool.{and_left, lt-leb, false≢true}
 use Rattle.std.proofs.lemmas.Nat.{pow_pos}
-use Rattle.np_addr.specs.Types.{Address, Cidr, Family}
+use Rattle.np_addr.specs.Prelude.{Address, AreDisjoint, Cidr, Family, IsCidr, LiesIn, StandsBefore, block_at, cidr_has, is_covered, width_of}
 use Rattle.np_addr.specs.declared.address.Address.TheVariants as address
 use Rattle.np_addr.specs.declared.address.Family.TheVariants as family
 use Rattle.np_addr.specs.declared.cidr.Cidr.TheVariants as cidr
-use Rattle.np_addr.specs.Addresses.{width_of, IsCidr, cidr_has}
-use Rattle.np_addr.specs.Prefixes.{block_at, LiesIn, AreDisjoint, StandsBefore}
 use Rattle.np_addr.proofs.SubsetLemmas.{in_block-parts, in_block-from}
-use Rattle.np_addr.specs.Numbers.{is_covered}
 
 -- the address of a number
 abbrev pub address_at : Family → ℕ → Address

@@ -1,6 +1,5 @@
 -- Blocks of addresses. For `block_set`, `blocks_set` and 3 more.
-use Rattle.std.proofs.Common.{◌≡◌, ℕ, Bool, false, not, ◌&&◌, ◌||◌, nat_le, nat_lt, min, List, [], ◌∷◌, ◌++◌, take, length, get_or, ◌+◌, ◌-◌, ◌*◌, ◌/◌, ◌%◌, ◌^◌, ◌<◌, ◌≤◌, bit_and}
-use Rattle.std.proofs.Common.{sym, ap, ◌∙◌, one-mul, arith}
+use Rattle.std.proofs.Common.{◌≡◌, ℕ, Bool, false, not, ◌&&◌, ◌||◌, nat_le, nat_lt, min, List, [], ◌∷◌, ◌++◌, take, length, get_or, ◌+◌, ◌-◌, ◌*◌, ◌/◌, ◌%◌, ◌^◌, ◌<◌, ◌≤◌, bit_and, sym, ap, ◌∙◌, one-mul, arith}
 use Rattle.std.proofs.Math.Nat.{mul-mod_left, mul-le-mul_right, add-mul}
 use Rattle.std.proofs.lemmas.Nat.{pow_pos, shr_below, shr_split, pow-add}
 use Rattle.std.proofs.lemmas.Nat.Bits.{and_high_mask}
@@ -11,13 +10,10 @@ use Rattle.std.specs.List.{list_any}
 use Rattle.std.proofs.Math.Bool.{or-false}
 use Rattle.np_base.specs.Beside.{by_side}
 use Rattle.np_base.specs.Ranges.{holds}
-use Rattle.np_addr.specs.Types.{Address, Cidr, Four, Range, Six}
+use Rattle.np_addr.specs.Prelude.{Address, AddressRanges, Cidr, Four, Range, Six, block_has, cidr_has, cleared, set_has}
 use Rattle.np_base.specs.declared.beside.Which.{Which}
 use Rattle.np_base.specs.declared.beside.Which.TheVariants.{First, Second}
 use Rattle.np_addr.specs.declared.cidr.Cidr.TheVariants as cidr
-use Rattle.np_addr.specs.Addresses.{cidr_has}
-use Rattle.np_addr.specs.AddressGrammar.{cleared}
-use Rattle.np_addr.specs.Blocks.{AddressRanges, set_has, block_has}
 
 -- low is the greatest number of so many bits
 pub cleared-mask : (bits n low : ℕ) → bits ≤ 128 → n < 2 ^ 128 → low + 1 ≡ 2 ^ bits → bit_and n (2 ^ 128 - 1 - low) ≡ cleared bits n

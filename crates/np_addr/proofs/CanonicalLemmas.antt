@@ -1,7 +1,6 @@
 -- The canonical text of an address is a text of that address, so reading it gives the address again.
 -- For `canonical_text_reads_again`, `canonical_texts_differ` and 4 more.
-use Rattle.std.proofs.Common.{◌≡◌, ℕ, zero, suc, ◌+◌, ◌-◌, ◌*◌, ◌/◌, ◌%◌, ◌^◌, ◌<◌, ◌≤◌, ◌==◌, Bool, true, false, List, [], ◌∷◌, ◌++◌, length, take, drop, replicate, decimal, codes, Some, refl, sym}
-use Rattle.std.proofs.Common.{ap, ◌∙◌, inl, inr, append-nil, append_assoc, take-add, take-append-drop, length-take-le, length-drop, one-mul, arith, lit≤, lit<}
+use Rattle.std.proofs.Common.{◌≡◌, ℕ, zero, suc, ◌+◌, ◌-◌, ◌*◌, ◌/◌, ◌%◌, ◌^◌, ◌<◌, ◌≤◌, ◌==◌, Bool, true, false, List, [], ◌∷◌, ◌++◌, length, take, drop, replicate, decimal, codes, Some, refl, sym, ap, ◌∙◌, inl, inr, append-nil, append_assoc, take-add, take-append-drop, length-take-le, length-drop, one-mul, arith, lit≤, lit<}
 use Rattle.std.proofs.Math.Nat.{div-lt_iff_lt-mul, div-eq_of_lt, pow-zero, pow-suc}
 use Rattle.std.proofs.NetLemmas.Texts.{IsZeroRun-longest_zero_run}
 use Rattle.std.proofs.lemmas.Bool.{eq-eqb, cond_both, cases_lt, lt-ltb, le-ltb}
@@ -11,13 +10,8 @@ use Rattle.std.proofs.lemmas.Option.{same_Some}
 use Rattle.std.specs.Fmt.{digits, digits_onto, digit_glyph}
 use Rattle.std.specs.List.{AllByRecursion}
 use Rattle.std.specs.Net.Text.{longest_zero_run}
-use Rattle.np_addr.specs.Types.{Address, Cidr, Four, Six}
+use Rattle.np_addr.specs.Prelude.{Address, AreGroups, Cidr, Four, IsAddress, IsAddressText, IsCidr, IsCidrText, IsColonHex, IsDotted, IsGroup, IsLength, IsPart, IsSide, Six, address_of, address_text, base_of, cidr_of, cidr_text, cleared, group_text, groups_text, ipv4_text, low_groups, shortened_text}
 use Rattle.np_addr.specs.declared.cidr.Cidr.TheVariants as cidr
-use Rattle.np_addr.specs.AddressGrammar.{address_of, cleared, cidr_of}
-use Rattle.np_addr.specs.AddressText.{low_groups, group_text, groups_text, shortened_text, ipv4_text, address_text, cidr_text}
-use Rattle.np_addr.specs.Addresses.{IsAddress, IsCidr}
-use Rattle.np_addr.specs.Blocks.{base_of}
-use Rattle.np_addr.specs.TextForms.{IsPart, IsGroup, IsDotted, AreGroups, IsSide, IsColonHex, IsAddressText, IsLength, IsCidrText}
 use Rattle.np_addr.proofs.GrammarLemmas.{address_text_iff, cidr_text_iff}
 use Rattle.np_addr.proofs.GroupLemmas.{number-low_groups, length-low_groups}
 

@@ -1,10 +1,6 @@
 -- The text of a block. For `find_cidr`.
 use Rattle.std.proofs.Common.{◌≡◌, ℕ, List, ◌∷◌, Option, Some, None, inl, inr, refl, sym, lit≤}
-use Rattle.np_addr.specs.Types.{Address}
-use Rattle.np_addr.specs.Addresses.{family_of, width_of}
-use Rattle.np_addr.specs.AddressGrammar.{address_of, length_of, block_of, block_between, block_of_pieces}
-use Rattle.np_addr.specs.Pieces.{pieces}
-use Rattle.np_addr.specs.Steps.{◌>>=◌}
+use Rattle.np_addr.specs.Prelude.{Address, address_of, block_between, block_of, block_of_pieces, family_of, length_of, pieces, width_of, ◌>>=◌}
 use Rattle.np_addr.proofs.PieceLemmas.{pieces-cases, numeral_of-cut}
 
 -- what is cut at `/` is no length

@@ -7,11 +7,8 @@ use Rattle.std.proofs.lemmas.Option.{none-some, same_Some, cond_some, option_and
 use Rattle.std.specs.Int.Digits.{number_from_digits}
 use Rattle.std.specs.List.{join_with_byte}
 use Rattle.std.specs.Option.{option_or}
-use Rattle.np_addr.specs.Ipv4Grammar.{ipv4_of}
-use Rattle.np_addr.specs.Ipv6Grammar.{group_of, halves_of, last_of, groups_of, side_of, around_gap, whole_of, filled_of, sides_of, ipv6_of}
-use Rattle.np_addr.specs.Pieces.{pieces}
-use Rattle.np_addr.specs.Steps.{◌>>=◌}
-use Rattle.np_addr.specs.TextForms.{IsGroup, IsDotted, AreGroups, IsSide, IsColonHex}
+use Rattle.np_addr.specs.Prelude.{AreGroups, IsColonHex, IsDotted, IsGroup, IsSide, around_gap, filled_of, group_of, halves_of, ipv4_of, ipv6_of, last_of, pieces, side_of, sides_of, whole_of, ◌>>=◌}
+use Rattle.np_addr.specs.Ipv6Grammar.{groups_of}
 use Rattle.np_addr.proofs.DottedLemmas.{ipv4_of-dotted, dotted_from_ipv4, dotted_others, pieces-dotted, nested, part_others}
 use Rattle.np_addr.proofs.GapLemmas.{around_gap-colon, around_gap-piece, gap_after, around_gap-spelled}
 use Rattle.np_addr.proofs.NumeralLemmas.{numeral_of-numeral, Writes-from_numeral}

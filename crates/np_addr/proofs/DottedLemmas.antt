@@ -7,10 +7,7 @@ use Rattle.std.proofs.lemmas.Option.{none-some, same_Some, cond_some, option_and
 use Rattle.std.specs.Char.{digit_value}
 use Rattle.std.specs.Int.Digits.{number_from_digits}
 use Rattle.std.specs.List.{join_with_byte}
-use Rattle.np_addr.specs.Ipv4Grammar.{part_of, parts_of, dotted_of, ipv4_of}
-use Rattle.np_addr.specs.Numeral.{numeral_of}
-use Rattle.np_addr.specs.Pieces.{pieces}
-use Rattle.np_addr.specs.TextForms.{IsPart, IsDotted}
+use Rattle.np_addr.specs.Prelude.{IsDotted, IsPart, dotted_of, ipv4_of, numeral_of, part_of, parts_of, pieces}
 use Rattle.np_addr.proofs.NumeralLemmas.{numeral_of-numeral, Writes-from_numeral}
 use Rattle.np_addr.proofs.PieceLemmas.{IsOther, pieces-one, pieces-first, IsOther-from_digits}
 

@@ -5,7 +5,7 @@ use Rattle.std.proofs.lemmas.Option.{none-some, some_pair_parts}
 use Rattle.std.proofs.lemmas.List.Elements.{All-head, All-tail}
 use Rattle.std.specs.Borrow.{Bor}
 use Rattle.std.specs.Str.Pattern.{LacksTextAt, FindsText}
-use Rattle.np_addr.specs.Ipv6Grammar.{around_gap}
+use Rattle.np_addr.specs.Prelude.{around_gap}
 use Rattle.np_addr.proofs.PieceLemmas.{IsOther}
 
 -- two bytes that are both colons

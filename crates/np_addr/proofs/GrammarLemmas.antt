@@ -1,20 +1,12 @@
 -- The texts of addresses and of blocks are read to their values, and no other text is. For `texts_are_read_exactly` and crates above.
-use Rattle.std.proofs.Common.{◌≡◌, ◌↔◌, ℕ, ◌<◌, ◌==◌, ◌&&◌, nat_lt, Bool, true, false, cond, List, [], ◌∷◌, ◌++◌, length, slice_index, codes, Option, Some, None, option_map, All, refl, sym, ap, ◌∙◌}
-use Rattle.std.proofs.Common.{inl, inr, append_assoc, arith, lit≤}
+use Rattle.std.proofs.Common.{◌≡◌, ◌↔◌, ℕ, ◌<◌, ◌==◌, ◌&&◌, nat_lt, Bool, true, false, cond, List, [], ◌∷◌, ◌++◌, length, slice_index, codes, Option, Some, None, option_map, All, refl, sym, ap, ◌∙◌, inl, inr, append_assoc, arith, lit≤}
 use Rattle.std.proofs.lemmas.Bool.{cases_lt, cases_eq, or_from, or_parts, and_left, and_right, and_from, both_ways, ltb-false, le-ltb, lt-ltb, eq-eqb, ne_eqb, true≢false}
 use Rattle.std.proofs.lemmas.List.Elements.{All-append, All-cons, All-nil, All-head, All-tail}
 use Rattle.std.proofs.lemmas.List.Splits.{join_with_byte-slice_split}
 use Rattle.std.proofs.lemmas.Option.{none-some, same_Some, option_and_then_some}
 use Rattle.std.specs.List.{join_with_byte}
 use Rattle.std.specs.Option.{option_or}
-use Rattle.np_addr.specs.Types.{Address, Cidr, Four, Six}
-use Rattle.np_addr.specs.Addresses.{family_of, width_of}
-use Rattle.np_addr.specs.AddressGrammar.{address_of, length_of, block_between, block_of_pieces, cidr_of}
-use Rattle.np_addr.specs.Ipv4Grammar.{ipv4_of}
-use Rattle.np_addr.specs.Ipv6Grammar.{ipv6_of}
-use Rattle.np_addr.specs.Numeral.{numeral_of}
-use Rattle.np_addr.specs.Pieces.{pieces}
-use Rattle.np_addr.specs.TextForms.{IsDotted, AreGroups, IsSide, IsColonHex, IsAddressText, IsLength, IsCidrText}
+use Rattle.np_addr.specs.Prelude.{Address, AreGroups, Cidr, Four, IsAddressText, IsCidrText, IsColonHex, IsDotted, IsLength, IsSide, Six, address_of, block_between, block_of_pieces, cidr_of, family_of, ipv4_of, ipv6_of, length_of, numeral_of, pieces, width_of}
 use Rattle.np_addr.proofs.ColonHexLemmas.{ipv6_of-colon_hex, colon_hex_from_ipv6}
 use Rattle.np_addr.proofs.DottedLemmas.{ipv4_of-dotted, dotted_from_ipv4, dotted_others}
 use Rattle.np_addr.proofs.NumeralLemmas.{numeral_of-numeral, Writes-from_numeral}

@@ -6,9 +6,7 @@ use Rattle.std.proofs.lemmas.List.{length_push}
 use Rattle.std.proofs.lemmas.Nat.{pow-add, shr-shr, shr_high, mod-pow-add}
 use Rattle.std.proofs.lemmas.Int.Digits.{number_after_append}
 use Rattle.std.specs.Int.Digits.{number_from_digits, number_from_digits_after}
-use Rattle.np_addr.specs.AddressText.{group_at, low_groups}
-use Rattle.np_addr.specs.Groups.{at_most_eight}
-use Rattle.np_addr.specs.Ipv6Grammar.{whole_of, filled_of}
+use Rattle.np_addr.specs.Prelude.{at_most_eight, filled_of, group_at, low_groups, whole_of}
 
 pub length-low_groups : (count n : ℕ) → length (low_groups count n) ≡ count
 length-low_groups zero n = refl

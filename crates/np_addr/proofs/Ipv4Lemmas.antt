@@ -2,10 +2,7 @@
 use Rattle.std.proofs.Common.{◌≡◌, ℕ, ◌<◌, List, ◌∷◌, Option, Some, None, Result, Ok, Err, inl, inr, refl, sym, arith, lit≤}
 use Rattle.std.proofs.lemmas.Bool.{le-leb, lt-leb, cases_lt}
 use Rattle.std.specs.Result.{result_ok, OkIff}
-use Rattle.np_addr.specs.Numeral.{numeral_of}
-use Rattle.np_addr.specs.Pieces.{pieces}
-use Rattle.np_addr.specs.Steps.{◌>>=◌}
-use Rattle.np_addr.specs.Ipv4Grammar.{part_of, parts_of, dotted_of}
+use Rattle.np_addr.specs.Prelude.{dotted_of, numeral_of, part_of, parts_of, pieces, ◌>>=◌}
 use Rattle.np_addr.proofs.PieceLemmas.{pieces-cases, numeral_of-cut}
 
 -- a numeral of at most 255 is a part

@@ -4,9 +4,7 @@ use Rattle.std.specs.List.{filter_map, list_any}
 use Rattle.std.specs.List.Sorted.{IsNonDecreasing, IsPartitionPoint}
 use Rattle.std.proofs.lemmas.Bool.{false≢true, le-leb, le-ltb, lt-leb, ltb-false, ltb-true, and_right}
 use Rattle.std.proofs.lemmas.List.Folds.{list_any_at}
-use Rattle.np_addr.specs.Addresses.{cidr_has}
-use Rattle.np_addr.specs.Numbers.{is_covered, number_in}
-use Rattle.np_addr.specs.Types.{Address}
+use Rattle.np_addr.specs.Prelude.{Address, cidr_has, is_covered, number_in}
 use Rattle.np_addr.specs.declared.address.Address.TheVariants as address
 use Rattle.np_addr.specs.declared.address.Family.TheVariants as family
 use Rattle.np_addr.specs.declared.cidr.Cidr.TheVariants as cidr

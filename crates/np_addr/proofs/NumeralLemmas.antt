@@ -9,8 +9,7 @@ use Rattle.std.proofs.lemmas.Int.Digits.{digits_value-lt}
 use Rattle.std.specs.List.{list_all}
 use Rattle.std.specs.Char.{is_digit, digit_value}
 use Rattle.std.specs.Str.Parse.{AllDigits, IsNumeral, ParsesUnsigned}
-use Rattle.np_addr.specs.Numeral.{numeral_of}
-use Rattle.np_addr.specs.TextForms.{Writes}
+use Rattle.np_addr.specs.Prelude.{Writes, numeral_of}
 
 list_all-digits : (radix : ℕ) (cs : List ℕ) → AllDigits radix cs → list_all (λ c. is_digit c radix) cs ≡ true
 list_all-digits radix [] digits = refl

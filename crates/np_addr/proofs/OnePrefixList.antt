@@ -9,15 +9,11 @@ use Rattle.std.proofs.lemmas.List.Sums.{length-filter, count_by-le-length}
 use Rattle.std.proofs.lemmas.Nat.{pow_pos, pow_below}
 use Rattle.std.specs.List.{list_any}
 use Rattle.np_base.proofs.Lists.{AllPairs-head, AllPairs-tail}
-use Rattle.np_addr.specs.Types.{Address, Cidr}
+use Rattle.np_addr.specs.Prelude.{Address, AddressRanges, AreDisjoint, Cidr, IsCidr, IsRightPrefixList, LiesIn, StandsBefore, base_of, cidr_has, is_covered, set_has, some_has}
 use Rattle.np_addr.specs.declared.address.Address.TheVariants as address
 use Rattle.np_addr.specs.declared.cidr.Cidr.TheVariants as cidr
-use Rattle.np_addr.specs.Addresses.{IsCidr, cidr_has}
-use Rattle.np_addr.specs.Blocks.{AddressRanges, set_has, base_of}
-use Rattle.np_addr.specs.Prefixes.{some_has, LiesIn, AreDisjoint, StandsBefore, IsRightPrefixList}
 use Rattle.np_addr.proofs.SameLists.{same_elements_same_lists}
 use Rattle.np_addr.proofs.SubsetLemmas.{in_block-parts, in_block-from}
-use Rattle.np_addr.specs.Numbers.{is_covered}
 
 -- ---- blocks with the same addresses
 

@@ -7,8 +7,7 @@ use Rattle.std.proofs.lemmas.Str.Pattern.{IsSplitOnceResult, split_parts}
 use Rattle.std.specs.Borrow.{Bor}
 use Rattle.std.specs.Char.{digit_value}
 use Rattle.std.specs.Str.Parse.{AllDigits}
-use Rattle.np_addr.specs.Numeral.{numeral_of}
-use Rattle.np_addr.specs.Pieces.{pieces}
+use Rattle.np_addr.specs.Prelude.{numeral_of, pieces}
 use Rattle.np_addr.proofs.NumeralLemmas.{numeral_of-none}
 
 -- a byte that is no separator

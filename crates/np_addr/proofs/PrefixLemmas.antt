@@ -3,10 +3,8 @@ use Rattle.std.proofs.Common.{◌≡◌, ℕ, zero, suc, ◌+◌, ◌-◌, ◌*�
 use Rattle.std.proofs.Math.Nat.{pow-suc}
 use Rattle.std.proofs.lemmas.Bool.{and_parts, and_from, leb-true, le-leb, cond_both, cond-true, cond-false, false_from_ne_true, both_ways}
 use Rattle.std.proofs.lemmas.Nat.{pow_pos}
-use Rattle.np_addr.specs.Types.{Cidr, Family, Range}
+use Rattle.np_addr.specs.Prelude.{Cidr, Family, Range, block_at, blocks_in, is_inside, prefixes_of, range_prefixes, width_of}
 use Rattle.np_addr.specs.declared.address.Family.TheVariants as family
-use Rattle.np_addr.specs.Addresses.{width_of}
-use Rattle.np_addr.specs.Prefixes.{block_at, is_inside, blocks_in, range_prefixes, prefixes_of}
 
 pub is_inside-from : (range : Range ℕ) (base free : ℕ) → range.lo ≤ base → base + 2 ^ free ≤ range.hi + 1 → is_inside range base free ≡ true
 is_inside-from range base free above below = and_from _ _ (le-leb range.lo base above) (le-leb (base + 2 ^ free) (range.hi + 1) below)

@@ -8,22 +8,17 @@ use Rattle.std.proofs.lemmas.List.Folds.{list_any-append, list_any_none}
 use Rattle.std.proofs.lemmas.List.Kept.{AllPairs-cons}
 use Rattle.std.proofs.lemmas.Nat.{pow_pos, shr_split}
 use Rattle.std.proofs.Math.Bool.{or-false}
-use Rattle.np_addr.specs.Types.{Address, Cidr, Family, Range}
+use Rattle.np_addr.specs.Prelude.{Address, AddressRanges, AreDisjoint, Cidr, Family, IsAddressSet, IsCidr, IsRightPrefixList, LiesIn, Range, StandsBefore, block_at, blocks_in, cidr_has, is_covered, is_inside, prefixes_of, range_prefixes, set_has, some_has, width_of}
 use Rattle.np_base.specs.Ranges.{is_within, holds, IsAscending}
 use Rattle.np_base.proofs.Ranges.{is_within-past, holds-before}
 use Rattle.np_base.proofs.Lists.{AllPairs-append}
 use Rattle.np_addr.specs.declared.address.Address.TheVariants as address
 use Rattle.np_addr.specs.declared.address.Family.TheVariants as family
 use Rattle.np_addr.specs.declared.cidr.Cidr.TheVariants as cidr
-use Rattle.np_addr.specs.Addresses.{width_of, IsCidr, cidr_has}
-use Rattle.np_addr.specs.Blocks.{AddressRanges, set_has, IsAddressSet}
-use Rattle.np_addr.specs.Prefixes.{block_at, is_inside, blocks_in, range_prefixes, prefixes_of, some_has, LiesIn, AreDisjoint, StandsBefore, IsRightPrefixList}
-use Rattle.np_addr.proofs.BlockEnds.{address_at, IsBetween, Spans, EndsBefore, IsBetween-block_at, Spans-block_at, IsCidr-block_at, has-block_at, IsBetween-wider, EndsBefore-between}
-use Rattle.np_addr.proofs.BlockEnds.{EndsBefore-families, other_family_four, other_family_six, disjoint_by_ends, stands_by_ends, lies_four, lies_six}
+use Rattle.np_addr.proofs.BlockEnds.{address_at, IsBetween, Spans, EndsBefore, IsBetween-block_at, Spans-block_at, IsCidr-block_at, has-block_at, IsBetween-wider, EndsBefore-between, EndsBefore-families, other_family_four, other_family_six, disjoint_by_ends, stands_by_ends, lies_four, lies_six}
 use Rattle.np_addr.proofs.Pairs.{AllPairs-nil, AllPairs-weaker, Any-cons, Any-weaker, Any-append_left, Any-append_right}
 use Rattle.np_addr.proofs.PrefixLemmas.{is_inside-from, is_inside-parts, blocks_in-by_halves}
 use Rattle.np_addr.proofs.SubsetLemmas.{in_block-parts, in_block-from, ends_within}
-use Rattle.np_addr.specs.Numbers.{is_covered}
 
 -- ---- the blocks of one range in one block
 

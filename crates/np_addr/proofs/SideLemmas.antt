@@ -2,10 +2,8 @@
 use Rattle.std.proofs.Common.{◌≡◌, ℕ, ◌≤◌, Bool, true, false, cond, List, [], ◌∷◌, ◌++◌, length, Option, Some, None, option_map, refl, sym, ap, ◌∙◌, inl, inr, append_assoc, length-append, arith}
 use Rattle.std.proofs.lemmas.Bool.{leb-true, leb-false, lt-leb}
 use Rattle.std.proofs.lemmas.Option.{cond_some}
-use Rattle.np_addr.specs.Groups.{at_most_eight}
-use Rattle.np_addr.specs.Ipv6Grammar.{group_of, groups_of}
-use Rattle.np_addr.specs.Pieces.{pieces}
-use Rattle.np_addr.specs.Steps.{◌>>=◌}
+use Rattle.np_addr.specs.Prelude.{at_most_eight, group_of, pieces, ◌>>=◌}
+use Rattle.np_addr.specs.Ipv6Grammar.{groups_of}
 use Rattle.np_addr.proofs.PieceLemmas.{pieces-cases}
 
 -- the groups so far, and those that are found behind them

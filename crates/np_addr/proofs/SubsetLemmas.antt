@@ -3,13 +3,9 @@ use Rattle.std.proofs.Common.{◌≡◌, ◌↔◌, ℕ, ◌+◌, ◌-◌, ◌*�
 use Rattle.std.proofs.Math.Nat.{mul_assoc, add-mul, mul-le-mul_right, pow-le-pow_right, div-lt_iff_lt-mul, div-eq_of_lt-le}
 use Rattle.std.proofs.lemmas.Bool.{and_parts, and_from, and_left, and_right, cases_lt, leb-true, ltb-true, le-leb, lt-ltb, lt-leb, le-ltb, both_ways, false≢true}
 use Rattle.std.proofs.lemmas.Nat.{pow_pos, shr_split, mod_below, pow_below, pow-add}
-use Rattle.np_addr.specs.Types.{Address, Cidr}
+use Rattle.np_addr.specs.Prelude.{Address, Cidr, IsCidr, IsStrictSubset, SharesFirstBits, cidr_has, is_covered, is_strict_part}
 use Rattle.np_addr.specs.declared.address.Address.TheVariants as address
 use Rattle.np_addr.specs.declared.cidr.Cidr.TheVariants as cidr
-use Rattle.np_addr.specs.Addresses.{IsCidr, cidr_has}
-use Rattle.np_addr.specs.Blocks.{is_strict_part}
-use Rattle.np_addr.specs.Laws.{SharesFirstBits, IsStrictSubset}
-use Rattle.np_addr.specs.Numbers.{is_covered}
 
 pub in_block-parts : (base free n : ℕ) → is_covered base free n ≡ true → (base ≤ n) × (n < base + 2 ^ free)
 in_block-parts base free n held = let parts = and_parts _ _ held in (leb-true base n parts.0, ltb-true n (base + 2 ^ free) parts.1)

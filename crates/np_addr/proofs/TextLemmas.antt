@@ -3,7 +3,7 @@ use Rattle.std.proofs.Common.{◌≡◌, ℕ, ◌+◌, ◌-◌, ◌≤◌, List,
 use Rattle.std.proofs.lemmas.Bool.{lt-ltb}
 use Rattle.std.proofs.lemmas.List.{take_rest}
 use Rattle.std.specs.Net.Text.{longest_zero_run}
-use Rattle.np_addr.specs.AddressText.{groups_text, shortened_text}
+use Rattle.np_addr.specs.Prelude.{groups_text, shortened_text}
 
 -- what is written round a run of two or more
 pub shortened_text-run : (groups : List ℕ) (run : ℕ × ℕ) → run ≡ longest_zero_run groups → 2 ≤ run.1 →

@@ -1,6 +1,6 @@
+pub mod Addresses
 pub mod AddressGrammar
 pub mod AddressText
-pub mod Addresses
 pub mod Blocks
 pub mod Faults
 pub mod Groups
@@ -11,6 +11,7 @@ pub mod Numbers
 pub mod Numeral
 pub mod Pieces
 pub mod Prefixes
+pub mod Prelude
 pub mod Steps
 pub mod TextForms
 pub mod Types

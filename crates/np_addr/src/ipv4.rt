@@ -1,6 +1,6 @@
 //! The text of IPv4 addresses.
 ghost use Rattle.std.specs.Prelude.{◌≡◌};
-ghost use Rattle.np_addr.specs.Ipv4Grammar.{part_of, parts_of, ipv4_of};
+ghost use Rattle.np_addr.specs.Prelude.{ipv4_of, part_of, parts_of};
 
 use crate::numeral::read_numeral;
 use crate::pieces::split_first;

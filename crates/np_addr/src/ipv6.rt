@@ -1,8 +1,7 @@
 //! The text of IPv6 addresses.
 ghost use Rattle.std.specs.Prelude.{◌≡◌, ◌++◌, Some, None, MatchOption, option_map};
-ghost use Rattle.np_addr.specs.Groups.{at_most_eight};
-ghost use Rattle.np_addr.specs.Ipv6Grammar.{group_of, last_of, groups_of, side_of, around_gap, ipv6_of};
-ghost use Rattle.np_addr.specs.Pieces.{pieces};
+ghost use Rattle.np_addr.specs.Prelude.{around_gap, at_most_eight, group_of, ipv6_of, last_of, pieces, side_of};
+ghost use Rattle.np_addr.specs.Ipv6Grammar.{groups_of};
 
 use crate::groups::Groups;
 use crate::ipv4::read_ipv4;

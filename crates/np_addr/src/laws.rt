@@ -1,13 +1,7 @@
 //! Laws of the texts and of the blocks, in their own words.
 ghost use Rattle.std.specs.Prelude.{◌≡◌, ℕ, ◌≤◌, ◌↔◌, List, length, true, All, Some};
 ghost use Rattle.std.specs.Net.Text.{longest_zero_run};
-ghost use Rattle.np_addr.specs.Addresses.{IsAddress, IsCidr, cidr_has};
-ghost use Rattle.np_addr.specs.AddressText.{address_text, cidr_text};
-ghost use Rattle.np_addr.specs.AddressGrammar.{address_of, cidr_of};
-ghost use Rattle.np_addr.specs.Blocks.{AddressRanges, set_has, IsAddressSet, base_of, is_strict_part};
-ghost use Rattle.np_addr.specs.Prefixes.{IsRightPrefixList, prefixes_of, some_has};
-ghost use Rattle.np_addr.specs.TextForms.{IsAddressText, IsCidrText};
-ghost use Rattle.np_addr.specs.Laws.{IsZeroRun, SharesFirstBits, IsStrictSubset};
+ghost use Rattle.np_addr.specs.Prelude.{AddressRanges, IsAddress, IsAddressSet, IsAddressText, IsCidr, IsCidrText, IsRightPrefixList, IsStrictSubset, IsZeroRun, SharesFirstBits, address_of, address_text, base_of, cidr_has, cidr_of, cidr_text, is_strict_part, prefixes_of, set_has, some_has};
 ghost use Rattle.np_addr.specs.declared.address.Address.{Address};
 ghost use Rattle.np_addr.specs.declared.cidr.Cidr.{Cidr};
 

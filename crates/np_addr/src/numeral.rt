@@ -1,6 +1,6 @@
 //! Numbers in a text.
 ghost use Rattle.std.specs.Prelude.{◌≡◌, ◌≤◌, ◌^◌};
-ghost use Rattle.np_addr.specs.Numeral.{numeral_of};
+ghost use Rattle.np_addr.specs.Prelude.{numeral_of};
 
 // One to `most` digits of the radix, without a sign, as their number.
 pub(crate) fn read_numeral(text: &str, radix: u32, most: usize) -> Option<u16>

@@ -1,6 +1,6 @@
 //! Texts cut at separators.
 ghost use Rattle.std.specs.Prelude.{◌≡◌, ◌<◌, [], ◌∷◌, length, MatchOption, IfSome};
-ghost use Rattle.np_addr.specs.Pieces.{pieces};
+ghost use Rattle.np_addr.specs.Prelude.{pieces};
 
 // The text before the first separator and the text after it.
 pub(crate) fn split_first(text: &str, separator: char) -> Option<(&str, &str)>

@@ -1,7 +1,6 @@
 //! The right list of blocks of a set of addresses.
 ghost use Rattle.std.specs.Prelude.{◌≡◌, ◌+◌, ◌^◌, ◌≤◌, ◌++◌, IfOk, OnOk, All, flat_map};
-ghost use Rattle.np_addr.specs.Addresses.{width_of, IsCidr};
-ghost use Rattle.np_addr.specs.Prefixes.{block_at, blocks_in, range_prefixes, prefixes_of};
+ghost use Rattle.np_addr.specs.Prelude.{IsCidr, block_at, blocks_in, prefixes_of, range_prefixes, width_of};
 
 use crate::address::{Family, width_of};
 use crate::block::AddrSet;

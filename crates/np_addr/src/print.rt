@@ -1,10 +1,9 @@
 //! The one canonical text of each address and of each block.
 ghost use Rattle.std.specs.Prelude.{◌≡◌, ℕ, ◌+◌, ◌*◌, ◌/◌, ◌%◌, ◌^◌, ◌<◌, ◌≤◌, ◌++◌, length, codes, decimal, Some, IfOk, OnOk, string_bytes};
-ghost use Rattle.np_addr.specs.AddressGrammar.{address_of, cidr_of};
-ghost use Rattle.np_addr.specs.Addresses.{IsAddress, IsCidr};
+ghost use Rattle.np_addr.specs.Prelude.{IsAddress, IsCidr, address_of, address_text, cidr_of, cidr_text, group_at, groups_text, ipv4_text, ipv6_text, shortened_text};
 ghost use Rattle.std.specs.List.{join_by};
 ghost use Rattle.std.specs.Net.Text.{longest_zero_run};
-ghost use Rattle.np_addr.specs.AddressText.{ipv4_text, groups_of, group_at, groups_text, shortened_text, ipv6_text, address_text, cidr_text};
+ghost use Rattle.np_addr.specs.AddressText.{groups_of};
 
 use crate::address::Address;
 use crate::cidr::{Cidr, base_of, bits_of};

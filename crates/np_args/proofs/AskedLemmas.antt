@@ -14,10 +14,7 @@ use Rattle.clap.specs.declared.builder.command.Command.{Command}
 use Rattle.clap.specs.declared.error.Error.{Error}
 use Rattle.clap.specs.declared.parser.matches.ArgMatches.{ArgMatches}
 use Rattle.clap.specs.declared.parser.matches.Found.{Found}
-use Rattle.np_args.specs.Arguments.{are_files, asked_of, checked_files, files_in, is_none, value_in}
-use Rattle.np_args.specs.Faults.{fault_of_kind}
-use Rattle.np_args.specs.Values.{Text}
-use Rattle.np_args.specs.Types.{NoMemory, Usage, WordsFault}
+use Rattle.np_args.specs.Prelude.{NoMemory, Text, Usage, WordsFault, are_files, asked_of, checked_files, fault_of_kind, files_in, is_none, value_in}
 
 -- ---- commands
 

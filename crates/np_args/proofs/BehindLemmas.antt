@@ -7,9 +7,7 @@ use Rattle.clap.specs.Simple.{App, Shape, built, entered, filled, matches_of}
 use Rattle.clap.specs.Walk.{Held, Row, Rule, Walk, finished, has_row, nothing_held, reading_by, settled, walked}
 use Rattle.clap.specs.declared.parser.matches.ValueSource.TheVariants.{CommandLine}
 use Rattle.np_args.proofs.FileLemmas.{Ends, IsMet, TakesFiles, after, end, front, in_order, plain_end, start}
-use Rattle.np_args.specs.Arguments.{are_files, asked_of, is_none}
-use Rattle.np_args.specs.Laws.{is_plain, or_standard_input}
-use Rattle.np_args.specs.Values.{Text}
+use Rattle.np_args.specs.Prelude.{Text, are_files, asked_of, is_none, is_plain, or_standard_input}
 
 -- ---- words that end without a fault
 

@@ -7,15 +7,10 @@ use Rattle.clap.proofs.OnLiterals.{clap_on_literals}
 use Rattle.clap.specs.Faults.{defaults_fault}
 use Rattle.clap.specs.Simple.{Shape, built}
 use Rattle.clap.specs.Walk.{Row, Walk, finished, walked}
-use Rattle.np_addr.specs.Steps.{◌>>=◌}
+use Rattle.np_addr.specs.Prelude.{◌>>=◌}
 use Rattle.np_args.proofs.BehindLemmas.{Holds, IsWalked, Makes, apart, faults_from, joined, optioned, row_of_value}
 use Rattle.np_args.proofs.FileLemmas.{TakesFiles, after, plain_words}
-use Rattle.np_args.specs.Arguments.{are_files, checked_files, is_standard_input, required_rule}
-use Rattle.np_args.specs.CheckWords.{check_command, check_job, check_of}
-use Rattle.np_args.specs.CommandLines.{job_of}
-use Rattle.np_args.specs.Laws.{is_plain, or_standard_input}
-use Rattle.np_args.specs.Values.{Text}
-use Rattle.np_args.specs.Types.{Check as CheckJob, Job}
+use Rattle.np_args.specs.Prelude.{Check as CheckJob, Job, Text, are_files, check_command, check_job, check_of, checked_files, is_plain, is_standard_input, job_of, or_standard_input, required_rule}
 
 -- the statement file and the files, where each is there
 abbrev pub checked_of : Option (List Text) → Option Text → Option Job

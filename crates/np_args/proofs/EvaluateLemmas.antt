@@ -1,12 +1,9 @@
 -- The command line of `evaluate`: clap is exact for it, and what its values make. For `EvaluateWordsCommandWords::job`.
 use Rattle.std.proofs.Common.{◌≡◌, ◌∙◌, ℕ, ap, List, Option, Some, codes}
 use Rattle.clap.specs.Walk.{Row}
-use Rattle.np_addr.specs.Steps.{◌>>=◌}
-use Rattle.np_conns.specs.ConnsText.{proto_named}
-use Rattle.np_args.specs.Types.{EndWord, Evaluate as EvaluateJob, Job, Proto}
-use Rattle.np_args.specs.Arguments.{files_in, value_in}
-use Rattle.np_args.specs.EvaluateWords.{evaluate_of}
-use Rattle.np_args.specs.Values.{Text, end_of, port_of}
+use Rattle.np_addr.specs.Prelude.{◌>>=◌}
+use Rattle.np_conns.specs.Prelude.{proto_named}
+use Rattle.np_args.specs.Prelude.{EndWord, Evaluate as EvaluateJob, Job, Proto, Text, end_of, evaluate_of, files_in, port_of, value_in}
 
 -- the packet of these values, where each is there
 abbrev pub packet_of : Option Proto → Option ℕ → Option (List Text) → Option EndWord → Option EndWord → Option Job

@@ -3,12 +3,8 @@
 use Rattle.std.proofs.Common.{◌≡◌, ◌∙◌, ◌∷◌, ◌++◌, [], ap, List, Option, Some, codes, refl}
 use Rattle.clap.proofs.OnLiterals.{clap_on_literals}
 use Rattle.clap.specs.Walk.{Row}
-use Rattle.np_addr.specs.Steps.{◌>>=◌}
-use Rattle.np_args.specs.Arguments.{files_in, value_in}
-use Rattle.np_args.specs.CommandLines.{job_of}
-use Rattle.np_args.specs.ExplainWords.{explain_job, explain_of}
-use Rattle.np_args.specs.Values.{Text, end_of}
-use Rattle.np_args.specs.Types.{EndWord, Explain as ExplainJob, Job}
+use Rattle.np_addr.specs.Prelude.{◌>>=◌}
+use Rattle.np_args.specs.Prelude.{EndWord, Explain as ExplainJob, Job, Text, end_of, explain_job, explain_of, files_in, job_of, value_in}
 
 -- the ends of these values, where each is there
 abbrev ends_of : Option (List Text) → Option EndWord → Option EndWord → Option Job

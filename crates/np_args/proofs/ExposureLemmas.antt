@@ -3,12 +3,8 @@
 use Rattle.std.proofs.Common.{◌≡◌, ◌∙◌, ◌∷◌, ◌++◌, [], ap, List, None, Option, Some, codes, refl}
 use Rattle.clap.proofs.OnLiterals.{clap_on_literals}
 use Rattle.clap.specs.Walk.{Row, first_of}
-use Rattle.np_addr.specs.Steps.{◌>>=◌}
-use Rattle.np_args.specs.Arguments.{files_in, value_in}
-use Rattle.np_args.specs.CommandLines.{job_of}
-use Rattle.np_args.specs.ExposureWords.{exposure_job, exposure_of}
-use Rattle.np_args.specs.Values.{Text, format_of}
-use Rattle.np_args.specs.Types.{Exposure as ExposureJob, Format, Job, Plain}
+use Rattle.np_addr.specs.Prelude.{◌>>=◌}
+use Rattle.np_args.specs.Prelude.{Exposure as ExposureJob, Format, Job, Plain, Text, exposure_job, exposure_of, files_in, format_of, job_of, value_in}
 
 -- the workloads of these values, where each is there
 abbrev shown_of : Option Format → Option (List Text) → Option Text → Option Job

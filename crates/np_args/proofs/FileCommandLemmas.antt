@@ -6,12 +6,7 @@ use Rattle.clap.specs.Simple.{built}
 use Rattle.clap.specs.Walk.{finished, nothing_held}
 use Rattle.np_args.proofs.BehindLemmas.{IsWalked, Makes, faults_from, nothing_holds, nothing_met, once_or_alone, optioned}
 use Rattle.np_args.proofs.FileLemmas.{TakesFiles, after}
-use Rattle.np_args.specs.Arguments.{are_files, asked_of, checked_files}
-use Rattle.np_args.specs.CommandLines.{job_of}
-use Rattle.np_args.specs.FileWords.{files_command, files_of, flatten_job, unused_job}
-use Rattle.np_args.specs.Laws.{is_plain, or_standard_input}
-use Rattle.np_args.specs.Values.{Text}
-use Rattle.np_args.specs.Types.{Flatten as FlattenJob, Job, Unused as UnusedJob}
+use Rattle.np_args.specs.Prelude.{Flatten as FlattenJob, Job, Text, Unused as UnusedJob, are_files, asked_of, checked_files, files_command, files_of, flatten_job, is_plain, job_of, or_standard_input, unused_job}
 
 -- ---- words
 

@@ -9,12 +9,9 @@ use Rattle.clap.specs.Faults.{positional_fault, settle_fault, stray_fault, turn_
 use Rattle.clap.specs.Kinds.{Kinds, or_else}
 use Rattle.clap.specs.Lexer.{long_of, short_of}
 use Rattle.clap.specs.Simple.{Shape, filled, with_index}
-use Rattle.clap.specs.Walk.{Held, Row, Rule, Step, Walk, Waiting, after_step, arg_by_id, arg_by_index, at_row, has_row, idle, is_pending, more_values, positional, positional_held, pushed, reading_by}
-use Rattle.clap.specs.Walk.{settled, settled_rows, takes_several, to_positional, used_by_id, value, walked, word_met}
+use Rattle.clap.specs.Walk.{Held, Row, Rule, Step, Walk, Waiting, after_step, arg_by_id, arg_by_index, at_row, has_row, idle, is_pending, more_values, positional, positional_held, pushed, reading_by, settled, settled_rows, takes_several, to_positional, used_by_id, value, walked, word_met}
 use Rattle.clap.specs.declared.parser.matches.ValueSource.TheVariants.{CommandLine}
-use Rattle.np_args.specs.Arguments.{file_rule, is_none}
-use Rattle.np_args.specs.Laws.{is_plain}
-use Rattle.np_args.specs.Values.{Text}
+use Rattle.np_args.specs.Prelude.{Text, file_rule, is_none, is_plain}
 
 -- ---- the command
 

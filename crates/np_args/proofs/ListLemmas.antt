@@ -2,13 +2,10 @@
 use Rattle.std.proofs.Common.{◌≡◌, List, Option, Some, codes, refl}
 use Rattle.clap.specs.Simple.{Shape, built}
 use Rattle.clap.specs.Walk.{Row, Rule, first_of}
-use Rattle.np_addr.specs.Steps.{◌>>=◌}
+use Rattle.np_addr.specs.Prelude.{◌>>=◌}
 use Rattle.np_args.proofs.BehindLemmas.{IsWalked}
 use Rattle.np_args.proofs.FileLemmas.{TakesFiles}
-use Rattle.np_args.specs.Arguments.{files_in, value_in}
-use Rattle.np_args.specs.ListWords.{list_command, list_of}
-use Rattle.np_args.specs.Values.{Text, format_of, report_of, side_of}
-use Rattle.np_args.specs.Types.{FocusSide, Format, Job, List as ListJob, Report}
+use Rattle.np_args.specs.Prelude.{FocusSide, Format, Job, List as ListJob, Report, Text, files_in, format_of, list_command, list_of, report_of, side_of, value_in}
 
 -- the command as clap builds it, and its arguments
 abbrev pub shape : Shape

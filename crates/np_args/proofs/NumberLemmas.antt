@@ -5,8 +5,7 @@ use Rattle.std.proofs.lemmas.Fmt.{decimal-digits_value, decimal_is_IsNumeral, fi
 use Rattle.std.proofs.lemmas.Option.{none-some}
 use Rattle.std.proofs.lemmas.Str.Parse.{numerals_by_value, tells_digits}
 use Rattle.np_args.proofs.ValueLemmas.{IsNumber-from_word, number_to-number, number_to-some}
-use Rattle.np_args.specs.Laws.{is_plain}
-use Rattle.np_args.specs.Values.{Text, number_to}
+use Rattle.np_args.specs.Prelude.{Text, is_plain, number_to}
 
 -- the words that are numbers are the decimals of those from 1 to `most`
 pub number_to-decimal : (most : ℕ) → most < 2 ^ 32 → (word : Text) (number : ℕ) → (number_to most word ≡ Some number) ↔ ((1 ≤ number) × (number ≤ most) × (word ≡ decimal number))

@@ -18,11 +18,7 @@ use Rattle.clap.specs.declared.error.kind.ErrorKind.TheVariants.{ArgumentConflic
 use Rattle.np_args.proofs.BehindLemmas.{faults_from, nothing_met}
 use Rattle.np_args.proofs.FileLemmas.{after, end, first_all_pass, front, start}
 use Rattle.np_args.proofs.ListLemmas.{rules, shape, takes}
-use Rattle.np_args.specs.Arguments.{is_none}
-use Rattle.np_args.specs.CommandLines.{job_of}
-use Rattle.np_args.specs.Laws.{is_list_option, is_plain}
-use Rattle.np_args.specs.ListWords.{list_command, list_job, list_of}
-use Rattle.np_args.specs.Values.{Text}
+use Rattle.np_args.specs.Prelude.{Text, is_list_option, is_none, is_plain, job_of, list_command, list_job, list_of}
 
 -- words with a fault ask for nothing
 faulty : (words : List Text) (fault : ErrorKind) → walk_fault shape [] (start false nothing_held) words ≡ fault ∷ [] → job_of (codes "list" ∷ words) ≡ None

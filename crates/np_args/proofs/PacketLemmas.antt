@@ -1,12 +1,9 @@
 -- What the words of `evaluate` ask for. For `packet_is_read_of_its_options`.
 use Rattle.std.proofs.Common.{◌≡◌, ◌∙◌, ◌++◌, ℕ, [], ◌∷◌, Option, Some, ap, codes, refl}
 use Rattle.clap.proofs.OnLiterals.{clap_on_literals}
-use Rattle.np_conns.specs.ConnsText.{proto_named}
-use Rattle.np_args.specs.Types.{EndWord, Evaluate as EvaluateJob, Proto}
+use Rattle.np_conns.specs.Prelude.{proto_named}
+use Rattle.np_args.specs.Prelude.{EndWord, Evaluate as EvaluateJob, Proto, Text, end_of, evaluate_job, job_of, port_of}
 use Rattle.np_args.proofs.EvaluateLemmas.{packet_of}
-use Rattle.np_args.specs.CommandLines.{job_of}
-use Rattle.np_args.specs.EvaluateWords.{evaluate_job}
-use Rattle.np_args.specs.Values.{Text, end_of, port_of}
 
 -- the four options, and no file
 asked_packet : (from to proto port : Text)

@@ -3,11 +3,7 @@ use Rattle.std.proofs.Common.{◌≡◌, ◌≢◌, ◌∙◌, ◌∷◌, ◌≤
 use Rattle.clap.proofs.OnLiterals.{clap_on_literals}
 use Rattle.np_args.proofs.FileLemmas.{plain_words}
 use Rattle.np_args.proofs.NumberLemmas.{number_to-decimal, number_to-plain}
-use Rattle.np_args.specs.CommandLines.{job_of}
-use Rattle.np_args.specs.Laws.{is_plain}
-use Rattle.np_args.specs.SampleWords.{sample_job}
-use Rattle.np_args.specs.Values.{Text, count_of}
-use Rattle.np_args.specs.Types.{Sample as SampleJob}
+use Rattle.np_args.specs.Prelude.{Sample as SampleJob, Text, count_of, is_plain, job_of, sample_job}
 
 -- ---- words
 

@@ -10,12 +10,7 @@ use Rattle.clap.specs.Walk.{Held, Row, Walk, finished, nothing_held, walked}
 use Rattle.np_args.proofs.BehindLemmas.{Holds, Makes, apart, asked, faults_from, joined, nothing_holds, nothing_met, once_or_alone, optioned, row_of_value}
 use Rattle.np_args.proofs.FileLemmas.{Ends, after, begun_end, end, front, in_order, plain_words, split_end}
 use Rattle.np_args.proofs.ListLemmas.{list_walked, rules, shape, takes}
-use Rattle.np_args.specs.Arguments.{are_files, checked_files, default_rule, option_rule}
-use Rattle.np_args.specs.CommandLines.{job_of}
-use Rattle.np_args.specs.Laws.{is_plain, or_standard_input, text_table}
-use Rattle.np_args.specs.ListWords.{list_command, list_job, list_of}
-use Rattle.np_args.specs.Values.{Text, report_of}
-use Rattle.np_args.specs.Types.{Job, Report, Two}
+use Rattle.np_args.specs.Prelude.{Job, Report, Text, Two, are_files, checked_files, default_rule, is_plain, job_of, list_command, list_job, list_of, option_rule, or_standard_input, report_of, text_table}
 
 -- ---- words of `list`
 

@@ -1,6 +1,5 @@
 -- What the readers of values find in a word. For `EndWord::of` and `read_number`.
-use Rattle.std.proofs.Common.{◌≡◌, ◌≢◌, ◌∙◌, ◌==◌, ◌&&◌, ◌^◌, ℕ, suc, ◌<◌, ◌≤◌, ap, sym, Bool, true, false, MatchBool, List, [], ◌∷◌, length, get_or, Option, Some, None, option_map, Result, Ok, Err}
-use Rattle.std.proofs.Common.{refl, inl, inr, lit<, arith, nat_le, if◌then◌else◌}
+use Rattle.std.proofs.Common.{◌≡◌, ◌≢◌, ◌∙◌, ◌==◌, ◌&&◌, ◌^◌, ℕ, suc, ◌<◌, ◌≤◌, ap, sym, Bool, true, false, MatchBool, List, [], ◌∷◌, length, get_or, Option, Some, None, option_map, Result, Ok, Err, refl, inl, inr, lit<, arith, nat_le, if◌then◌else◌}
 use Rattle.std.proofs.lemmas.Bool.{and_from, and_parts, eq-eqb, eqb-false, eqb-true, false_from_ne_true, le-leb, leb-true, lt-ltb, ltb-true, ne_eqb, not-true, or_cases, false≢true}
 use Rattle.std.proofs.lemmas.List.Folds.{list_any_at}
 use Rattle.std.proofs.lemmas.Option.{cond_some, none-some, same_Some}
@@ -12,9 +11,8 @@ use Rattle.std.specs.List.{list_all, list_any}
 use Rattle.std.specs.Result.{result_ok}
 use Rattle.std.specs.Str.Parse.{AllDigits, ParsesUnsigned, digits_value}
 use Rattle.std.specs.Str.Pattern.{FindsChar}
-use Rattle.np_addr.specs.AddressGrammar.{address_of}
-use Rattle.np_args.specs.Values.{Text, end_of, number_to}
-use Rattle.np_args.specs.Types.{At, Named}
+use Rattle.np_addr.specs.Prelude.{address_of}
+use Rattle.np_args.specs.Prelude.{At, Named, Text, end_of, number_to}
 
 -- ---- ends
 

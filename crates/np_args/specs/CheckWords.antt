@@ -2,7 +2,7 @@
 use Rattle.std.specs.Prelude.{◌∷◌, [], List, None, Option, Some, codes, if◌then◌else◌}
 use Rattle.clap.specs.Simple.{App}
 use Rattle.clap.specs.Walk.{Row, first_of}
-use Rattle.np_addr.specs.Steps.{◌>>=◌}
+use Rattle.np_addr.specs.Prelude.{◌>>=◌}
 use Rattle.np_args.specs.Arguments.{are_files, asked_of, command_of, file_rule, files_in, required_rule}
 use Rattle.np_args.specs.Values.{Text}
 use Rattle.np_args.specs.Types.{Check as CheckJob, Job}

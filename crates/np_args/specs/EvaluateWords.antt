@@ -2,8 +2,8 @@
 use Rattle.std.specs.Prelude.{◌∷◌, [], List, Option, Some, codes}
 use Rattle.clap.specs.Simple.{App}
 use Rattle.clap.specs.Walk.{Row}
-use Rattle.np_addr.specs.Steps.{◌>>=◌}
-use Rattle.np_conns.specs.ConnsText.{proto_named}
+use Rattle.np_addr.specs.Prelude.{◌>>=◌}
+use Rattle.np_conns.specs.Prelude.{proto_named}
 use Rattle.np_args.specs.Arguments.{asked_of, command_of, file_rule, files_in, required_rule, value_in}
 use Rattle.np_args.specs.Values.{Text, end_of, port_of}
 use Rattle.np_args.specs.Types.{Evaluate as EvaluateJob, Job}

@@ -2,7 +2,7 @@
 use Rattle.std.specs.Prelude.{◌∷◌, [], List, Option, Some, codes}
 use Rattle.clap.specs.Simple.{App}
 use Rattle.clap.specs.Walk.{Row, first_of}
-use Rattle.np_addr.specs.Steps.{◌>>=◌}
+use Rattle.np_addr.specs.Prelude.{◌>>=◌}
 use Rattle.np_args.specs.Arguments.{asked_of, command_of, default_rule, file_rule, files_in, option_rule, value_in}
 use Rattle.np_args.specs.Values.{Text, format_of}
 use Rattle.np_args.specs.Types.{Exposure as ExposureJob, Job}

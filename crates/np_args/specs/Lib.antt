@@ -9,6 +9,7 @@ pub mod FileWords
 pub mod Jobs
 pub mod Laws
 pub mod ListWords
+pub mod Prelude
 pub mod SampleWords
 pub mod Types
 pub mod Values

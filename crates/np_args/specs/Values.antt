@@ -5,7 +5,7 @@ use Rattle.std.specs.List.{list_all, list_any}
 use Rattle.std.specs.Map.{lookup}
 use Rattle.std.specs.Str.{bytes_eq}
 use Rattle.std.specs.Str.Parse.{digits_value}
-use Rattle.np_addr.specs.AddressGrammar.{address_of}
+use Rattle.np_addr.specs.Prelude.{address_of}
 use Rattle.np_args.specs.Types.{At, Csv, Destination, Either, EndWord, FocusSide, Format, Json, Named, One, Plain, Report, Source, Two}
 
 abbrev pub Text : Type 0

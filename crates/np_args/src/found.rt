@@ -2,8 +2,7 @@
 ghost use Rattle.std.specs.Prelude.{◌≡◌, Some, None, IfOk, IsErrOf};
 ghost use Rattle.clap.specs.Matches.{found_of};
 ghost use Rattle.clap.specs.Walk.{first_of, rows_of};
-ghost use Rattle.np_args.specs.Arguments.{value_in};
-ghost use Rattle.np_args.specs.Values.{end_of};
+ghost use Rattle.np_args.specs.Prelude.{end_of, value_in};
 
 use crate::end_word::EndWord;
 use crate::words_fault::WordsFault;

@@ -2,12 +2,9 @@
 //! nothing.
 ghost use Rattle.std.specs.Prelude.{◌≡◌, ◌≢◌, ◌==◌, ◌∷◌, ◌++◌, ◌≤◌, ◌↔◌, [], ℕ, IsUtf8, List, None, Some, codes, decimal, false, true};
 ghost use Rattle.std.specs.List.{before_first, list_all};
-ghost use Rattle.np_conns.specs.ConnsText.{proto_named};
+ghost use Rattle.np_conns.specs.Prelude.{proto_named};
 ghost use Rattle.np_conns.specs.declared.proto.Proto.{Proto};
-ghost use Rattle.np_args.specs.Arguments.{are_files};
-ghost use Rattle.np_args.specs.CommandLines.{job_of};
-ghost use Rattle.np_args.specs.Laws.{is_list_option, is_plain, or_standard_input, text_table};
-ghost use Rattle.np_args.specs.Values.{Text, end_of, format_of, port_of, report_of};
+ghost use Rattle.np_args.specs.Prelude.{Text, are_files, end_of, format_of, is_list_option, is_plain, job_of, or_standard_input, port_of, report_of, text_table};
 ghost use Rattle.np_args.specs.declared.end_word.EndWord.{EndWord};
 ghost use Rattle.np_args.specs.declared.format.Format.{Format};
 ghost use Rattle.np_args.specs.declared.format.Format.TheVariants.{Plain};

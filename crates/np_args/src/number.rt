@@ -1,6 +1,6 @@
 //! The numbers that words write.
 ghost use Rattle.std.specs.Prelude.{◌≡◌, ◌≤◌, IfSome};
-ghost use Rattle.np_args.specs.Values.{number_to, port_of};
+ghost use Rattle.np_args.specs.Prelude.{number_to, port_of};
 
 use np_base::{Point, PortNum};
 

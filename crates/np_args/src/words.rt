@@ -1,7 +1,6 @@
 //! The command lines of the program.
 ghost use Rattle.std.specs.Prelude.{◌≡◌, Some, None, IfOk, IsErrOf};
-ghost use Rattle.np_args.specs.CommandLines.{asked_by};
-ghost use Rattle.np_args.specs.Jobs.{IsWell};
+ghost use Rattle.np_args.specs.Prelude.{IsWell, asked_by};
 
 use crate::check_words::CheckWords;
 use crate::command_words::read;

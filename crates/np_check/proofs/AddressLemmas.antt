@@ -2,21 +2,16 @@
 use Rattle.std.proofs.Common.{◌≡◌, ℕ, ◌+◌, ◌<◌, List, [], ◌∷◌, Option, Some, None, get_or, length, option_map, take, refl, sym, ap, ◌∙◌, inl, inr}
 use Rattle.std.specs.Option.{option_or}
 use Rattle.std.proofs.lemmas.List.{take_more}
-use Rattle.np_addr.specs.Addresses.{family_of}
-use Rattle.np_addr.specs.Blocks.{AddressRanges}
-use Rattle.np_check.specs.Types.{Address, At, BreakingAddress, Counterexample, Egress, EstateLists, Family, Ingress, PlaceEnd, PortSpot, Wanted, Work}
+use Rattle.np_addr.specs.Prelude.{AddressRanges, family_of}
+use Rattle.np_check.specs.Prelude.{Address, At, BreakingAddress, Counterexample, Egress, EstateLists, Family, Ingress, PlaceEnd, PortSpot, Wanted, Work, addresses_of, breaks, broken_at, counterexample_at, counterexample_between, counterexample_in, earlier, families_between, first_broken_of, first_of, first_spot, number_of_address}
 use Rattle.np_check.proofs.BrokenLemmas.{broken_by}
 use Rattle.np_check.proofs.FirstLemmas.{first_of-append, first_of-none, first_of-one, first_of-option_map, first_of-same, from_either}
 use Rattle.np_check.proofs.MergeLemmas.{addresses-ascend, merge}
-use Rattle.np_check.specs.Counterexamples.{addresses_of, breaks, counterexample_at, counterexample_between, counterexample_in, families_between, number_of_address}
-use Rattle.np_check.specs.Firsts.{first_of, first_spot}
-use Rattle.np_check.specs.steps.Broken.{broken_at, earlier, first_broken_of}
-use Rattle.np_conns.specs.Conns.{Conns}
-use Rattle.np_fold.specs.Workloads.{folding_of}
+use Rattle.np_conns.specs.Prelude.{Conns}
+use Rattle.np_fold.specs.Prelude.{folding_of}
 use Rattle.np_model.specs.declared.direction.Direction.{Direction}
-use Rattle.np_table.specs.Rows.{address_rows, rows_of_addresses}
-use Rattle.np_kinds.specs.Between.{address_allows}
-use Rattle.np_table.specs.Table.{estate_table, table_of}
+use Rattle.np_table.specs.Prelude.{address_rows, estate_table, rows_of_addresses, table_of}
+use Rattle.np_kinds.specs.Prelude.{address_allows}
 
 -- the rows of a workload are those of what passes between it and each address
 pub table_rows : (lists : EstateLists) (work : ℕ) (direction : Direction) →

@@ -3,21 +3,17 @@ use Rattle.std.proofs.Common.{◌≡◌, ℕ, zero, suc, ◌+◌, ◌-◌, ◌^�
 use Rattle.std.specs.List.{find, range_with_len}
 use Rattle.std.specs.Option.{option_or}
 use Rattle.std.proofs.lemmas.Bool.{cases_Bool, cases_eq}
-use Rattle.np_addr.specs.Blocks.{AddressRanges, IsAddressSet, set_has}
-use Rattle.np_check.specs.Types.{Address, BreakingAddress, Family, Four, PortSpot, Range, Six, Wanted}
+use Rattle.np_addr.specs.Prelude.{AddressRanges, IsAddressSet, set_has}
+use Rattle.np_check.specs.Prelude.{Address, BreakingAddress, Family, Four, PortSpot, Range, Six, Wanted, addresses_in, breaks, broken_at, broken_in, first_broken_of, first_number, first_of, first_spot, with_spot}
 use Rattle.np_addr.specs.declared.address.Family.TheVariants as family
 use Rattle.np_base.specs.Ranges.{IsAscending, holds}
 use Rattle.np_check.proofs.FirstLemmas.{first_of-append, first_of-filter, first_of-map, first_of-none, none_both, range-append}
 use Rattle.np_check.proofs.RangeLemmas.{first_number-is}
 use Rattle.np_check.proofs.SpotLemmas.{breaks-same}
-use Rattle.np_check.specs.Counterexamples.{addresses_in, breaks}
-use Rattle.np_check.specs.Firsts.{first_of, first_spot}
-use Rattle.np_check.specs.steps.Broken.{broken_at, broken_in, first_broken_of, first_number, with_spot}
-use Rattle.np_conns.specs.Conns.{Conns, has_spot}
+use Rattle.np_conns.specs.Prelude.{Conns, has_spot}
 use Rattle.np_table.proofs.RangeWalks.{walk-right}
 use Rattle.np_table.proofs.SetLemmas.{has_spot-conns_of}
-use Rattle.np_table.specs.Right.{AreRight, Stretch, walk}
-use Rattle.np_table.specs.Rows.{address_row, four_of, rows_of_addresses, six_of}
+use Rattle.np_table.specs.Prelude.{AreRight, Stretch, address_row, four_of, rows_of_addresses, six_of, walk}
 
 -- ---- numbers from 0 on
 

@@ -7,7 +7,7 @@ use Rattle.std.proofs.lemmas.Bool.{cases_Bool, cases_eq}
 use Rattle.std.proofs.lemmas.Option.{none-some, same_Some}
 use Rattle.std.proofs.lemmas.List.Elements.{All-cons, All-head, All-nil, All-tail}
 use Rattle.np_base.proofs.Options.{option_or-none}
-use Rattle.np_check.specs.Firsts.{first_of}
+use Rattle.np_check.specs.Prelude.{first_of}
 
 or_or : {Y : Type 0} (a b c : Option Y) → option_or a (option_or b c) ≡ option_or (option_or a b) c
 or_or None b c = refl

@@ -5,26 +5,21 @@ use Rattle.std.specs.Option.{option_map, option_map_or}
 use Rattle.std.proofs.lemmas.Bool.{and_parts, cases_Bool, cases_eq, leb-true, eq-eqb}
 use Rattle.std.proofs.lemmas.List.Elements.{All-contains}
 use Rattle.std.proofs.lemmas.Option.{slice_get-map}
-use Rattle.np_addr.specs.Addresses.{family_of}
-use Rattle.np_check.specs.Types.{Address, At, Egress, EstateLists, Family, Ingress, PlaceEnd, PortSpot, Question, Wanted, Work}
+use Rattle.np_addr.specs.Prelude.{family_of}
+use Rattle.np_check.specs.Prelude.{Address, At, Egress, EstateLists, Family, HasAddress, Holds, Ingress, PlaceEnd, PortSpot, Question, Wanted, Work, addresses_of, ascends_from, breaks, complies, counterexample_at, counterexample_between, counterexample_from, counterexample_in, counterexample_of, first_of, first_spot, number_of_address}
 use Rattle.np_classes.specs.Classes.{members}
 use Rattle.np_check.proofs.FirstLemmas.{first_of-one, none_both}
 use Rattle.np_check.proofs.NoneLemmas.{both_none, is_whole, no_address, no_addresses, no_spot, no_spots, none_all, none_at, none_map, not_broken}
 use Rattle.np_check.proofs.PairLemmas.{between-alone, between-apart, from-work}
 use Rattle.np_check.proofs.SortedLemmas.{filtered}
 use Rattle.np_check.proofs.WholeLemmas.{of-question}
-use Rattle.np_check.specs.Counterexamples.{addresses_of, breaks, complies, counterexample_at, counterexample_between, counterexample_from, counterexample_in, counterexample_of, number_of_address}
-use Rattle.np_check.specs.Firsts.{first_of, first_spot}
-use Rattle.np_check.specs.Holding.{HasAddress, Holds}
-use Rattle.np_check.specs.Numbers.{ascends_from}
-use Rattle.np_conns.specs.Conns.{Conns, has_spot, is_spot}
-use Rattle.np_model.specs.Families.{families_of}
-use Rattle.np_model.specs.Lawful.{IsLawful}
-use Rattle.np_fold.specs.Workloads.{Workload, folding_of, first_of as first_named, members_of, named_first_pods, number_of, pods_alike, workload, workloads_of}
+use Rattle.np_conns.specs.Prelude.{Conns, has_spot, is_spot}
+use Rattle.np_model.specs.Prelude.{IsLawful, families_of}
+use Rattle.np_fold.specs.Prelude.{Workload, first_of as first_named, folding_of, members_of, named_first_pods, number_of, pods_alike, workload, workloads_of}
 use Rattle.np_names.specs.declared.named.Named.{Named}
 use Rattle.np_kinds.proofs.MemberLemmas.{destination-member, member-number, members-some, members-within, not-alone, own-member, source-member}
 use Rattle.np_kinds.proofs.PairLemmas.{between_pods-pair_allows, pair_allows-between, with_address-address_allows}
-use Rattle.np_kinds.specs.Between.{IsWorkload, address_allows, destination_pod, is_alone, pair_allows, source_pod}
+use Rattle.np_kinds.specs.Prelude.{IsWorkload, address_allows, destination_pod, is_alone, pair_allows, source_pod}
 
 -- ---- between two ends
 

@@ -1,17 +1,12 @@
 -- What is found is the first packet that breaks the statement. For `the_first_packet_is_found` and crates above.
 use Rattle.std.proofs.Common.{◌≡◌, ℕ, ◌≤◌, nat_le, [], ◌∷◌, Bool, true, false, Option, Some, None, Contains, option_map, refl, sym, ap, subst, ◌∙◌, inl, inr, arith}
 use Rattle.std.proofs.lemmas.Bool.{and_from, and_parts, cases_Bool, cases_lt, le-leb, leb-true, true≢false}
-use Rattle.np_check.specs.Types.{Counterexample, EstateLists, Family, PlaceEnd, PortSpot, Proto, Question, Sctp, Tcp, Udp}
+use Rattle.np_check.specs.Prelude.{Counterexample, EstateLists, Family, IsBroken, IsFirstBroken, PlaceEnd, PortSpot, Proto, Question, Sctp, Tcp, Udp, allows_between, breaks, comes_before, counterexample_at, counterexample_between, counterexample_from, counterexample_in, counterexample_of, families_between, family_before, first_of_ports, first_of_proto, first_spot, is_ascending, places_of, proto_before}
 use Rattle.np_check.proofs.FirstLemmas.{IsFound, found-is}
 use Rattle.np_check.proofs.NoneLemmas.{no_port, no_spot, none_at, none_map}
 use Rattle.np_check.proofs.OrderLemmas.{between_sorted, found_of, in_places, places_are, places_sorted, proto_in, protos_sorted}
 use Rattle.np_check.proofs.SortedLemmas.{strict_ends, strict_families, strict_protos}
-use Rattle.np_check.specs.Counterexamples.{allows_between, breaks, counterexample_at, counterexample_between, counterexample_from, counterexample_in, counterexample_of, families_between, places_of}
-use Rattle.np_check.specs.FirstPacket.{IsBroken, IsFirstBroken}
-use Rattle.np_check.specs.Firsts.{first_of_ports, first_of_proto, first_spot}
-use Rattle.np_check.specs.Numbers.{is_ascending}
-use Rattle.np_check.specs.Order.{comes_before, family_before, proto_before}
-use Rattle.np_conns.specs.Conns.{is_spot}
+use Rattle.np_conns.specs.Prelude.{is_spot}
 
 -- ---- where nothing is found no packet is broken
 

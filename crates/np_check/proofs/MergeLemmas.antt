@@ -5,14 +5,10 @@ use Rattle.std.specs.List.{AllByRecursion, range_with_len}
 use Rattle.std.specs.Option.{option_or}
 use Rattle.std.proofs.lemmas.Bool.{cases_Bool, lt-ltb}
 use Rattle.std.proofs.lemmas.Option.{none-some, same_Some}
-use Rattle.np_addr.specs.Blocks.{AddressRanges, set_has}
-use Rattle.np_check.specs.Types.{Address, At, Counterexample, Four, PlaceEnd, Six}
+use Rattle.np_addr.specs.Prelude.{AddressRanges, set_has}
+use Rattle.np_check.specs.Prelude.{Address, At, Counterexample, Four, PlaceEnd, Six, address_before, addresses_in, addresses_of, comes_before, earlier, first_of}
 use Rattle.np_check.proofs.FirstLemmas.{from_either}
 use Rattle.np_check.proofs.SortedLemmas.{SortedBy, address_back, address_itself, sorted_append}
-use Rattle.np_check.specs.Counterexamples.{addresses_in, addresses_of}
-use Rattle.np_check.specs.Firsts.{first_of}
-use Rattle.np_check.specs.Order.{address_before, comes_before}
-use Rattle.np_check.specs.steps.Broken.{earlier}
 
 -- ---- addresses in their order
 

@@ -3,16 +3,13 @@ use Rattle.std.proofs.Common.{◌≡◌, ℕ, ◌+◌, ◌^◌, ◌<◌, ◌≤�
 use Rattle.std.specs.Option.{option_or}
 use Rattle.std.proofs.lemmas.Bool.{and_from, and_parts, cases_Bool, le-leb, leb-true, true≢false}
 use Rattle.std.proofs.lemmas.List.Elements.{All-contains}
-use Rattle.np_addr.specs.Addresses.{IsAddress}
-use Rattle.np_addr.specs.Blocks.{AddressRanges, set_has}
-use Rattle.np_check.specs.Types.{Address, Four, PortSpot, Proto, Sctp, Six, Tcp, Udp, Wanted}
+use Rattle.np_addr.specs.Prelude.{AddressRanges, IsAddress, set_has}
+use Rattle.np_check.specs.Prelude.{Address, Four, PortSpot, Proto, Sctp, Six, Tcp, Udp, Wanted, addresses_in, addresses_of, breaks, complies, first_of, first_of_ports, first_of_proto, first_spot}
 use Rattle.np_check.proofs.BrokenLemmas.{addresses_upto, upto-below, upto-each}
 use Rattle.np_check.proofs.FirstLemmas.{find-none, first_of-append, none-found, none_both, none_each}
 use Rattle.np_check.proofs.MemberLemmas.{further_on}
 use Rattle.np_addr.proofs.SameLists.{Contains-first}
-use Rattle.np_check.specs.Counterexamples.{addresses_in, addresses_of, breaks, complies}
-use Rattle.np_check.specs.Firsts.{first_of, first_of_ports, first_of_proto, first_spot}
-use Rattle.np_conns.specs.Conns.{Conns, has_spot, is_spot}
+use Rattle.np_conns.specs.Prelude.{Conns, has_spot, is_spot}
 
 -- ---- of a list
 

@@ -6,23 +6,17 @@ use Rattle.std.specs.Option.{option_or}
 use Rattle.std.proofs.lemmas.Bool.{true≢false}
 use Rattle.std.proofs.lemmas.List.Elements.{All-contains, All-from_recursion, Contains-append_cases, Contains-append_left, Contains-append_right, filter_passes}
 use Rattle.std.proofs.lemmas.Option.{none-some}
-use Rattle.np_addr.specs.Addresses.{IsAddress}
-use Rattle.np_addr.specs.Blocks.{AddressRanges, set_has}
-use Rattle.np_check.specs.Types.{Address, At, Ends, EstateLists, Family, Four, PlaceEnd, Proto, Sctp, Six, Tcp, Udp, Work}
+use Rattle.np_addr.specs.Prelude.{AddressRanges, IsAddress, set_has}
+use Rattle.np_check.specs.Prelude.{Address, At, Ends, EstateLists, Family, Four, IsEndOf, PlaceEnd, Proto, Sctp, Six, Tcp, Udp, Work, address_before, addresses_in, addresses_of, comes_before, families_between, family_before, first_of, is_ascending, places_of, proto_before}
 use Rattle.np_addr.specs.declared.address.Family.TheVariants as family
 use Rattle.np_addr.proofs.SameLists.{Contains-first}
 use Rattle.np_check.proofs.MemberLemmas.{first_or_later, from_filter, from_map, from_range, further_on, in_filter, in_map, in_range}
 use Rattle.np_check.proofs.MergeLemmas.{addresses-ascend}
 use Rattle.np_check.proofs.SortedLemmas.{IsStrict, SortedBy, each_map, sorted_append, sorted_map, works_sorted}
-use Rattle.np_check.specs.Counterexamples.{addresses_in, addresses_of, families_between, places_of}
-use Rattle.np_check.specs.FirstPacket.{IsEndOf}
-use Rattle.np_check.specs.Firsts.{first_of}
-use Rattle.np_check.specs.Numbers.{is_ascending}
-use Rattle.np_check.specs.Order.{address_before, comes_before, family_before, proto_before}
-use Rattle.np_model.specs.Families.{families_of, has_family, or_four}
+use Rattle.np_model.specs.Prelude.{families_of, has_family, or_four}
 use Rattle.np_model.specs.declared.pod.Pod.{Pod}
-use Rattle.np_fold.specs.Workloads.{folding_of}
-use Rattle.np_kinds.specs.Between.{is_alone}
+use Rattle.np_fold.specs.Prelude.{folding_of}
+use Rattle.np_kinds.specs.Prelude.{is_alone}
 use Rattle.np_rules.proofs.EachItem.{All-each}
 
 -- ---- the first

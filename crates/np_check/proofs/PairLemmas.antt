@@ -4,22 +4,18 @@ use Rattle.std.specs.Option.{option_or}
 use Rattle.std.proofs.Math.Seq.{drop-cons}
 use Rattle.std.proofs.lemmas.List.{drop_all}
 use Rattle.std.proofs.lemmas.Bool.{and_parts, cases_Bool, eqb-true, ne_eqb}
-use Rattle.np_check.specs.Types.{Allow, At, Deny, Ends, EstateLists, Family, PortSpot, Wanted, Work}
+use Rattle.np_check.specs.Prelude.{Allow, AreSettled, At, Deny, Ends, EstateLists, Family, PortSpot, Wanted, Work, addresses_of, breaks, complies, counterexample_at, counterexample_between, counterexample_from, counterexample_in, families_between, first_of, first_spot, has_pair, is_deny, kind_of}
 use Rattle.np_check.proofs.FirstLemmas.{first_of-append, first_of-map, first_of-none}
 use Rattle.np_check.proofs.NoneLemmas.{no_spots, none_all, none_at, none_map}
 use Rattle.np_check.proofs.SpotLemmas.{breaks-same}
-use Rattle.np_check.specs.Counterexamples.{addresses_of, breaks, complies, counterexample_at, counterexample_between, counterexample_from, counterexample_in, families_between}
-use Rattle.np_check.specs.Firsts.{first_of, first_spot}
-use Rattle.np_check.specs.steps.Pairs.{AreSettled, has_pair, is_deny, kind_of}
-use Rattle.np_conns.specs.Conns.{Conns, has_spot}
-use Rattle.np_model.specs.Families.{families_of}
-use Rattle.np_model.specs.Lawful.{IsLawful}
-use Rattle.np_fold.specs.Workloads.{folding_of, members_of}
+use Rattle.np_conns.specs.Prelude.{Conns, has_spot}
+use Rattle.np_model.specs.Prelude.{IsLawful, families_of}
+use Rattle.np_fold.specs.Prelude.{folding_of, members_of}
 use Rattle.np_kinds.proofs.KindNumbers.{kinds-by}
 use Rattle.np_kinds.proofs.PairLemmas.{pair_allows-kinds}
 use Rattle.np_table.proofs.SetLemmas.{has_spot-conns_of}
-use Rattle.np_table.specs.Right.{conns_of}
-use Rattle.np_kinds.specs.Between.{IsWorkload, is_alone, pair_allows}
+use Rattle.np_table.specs.Prelude.{conns_of}
+use Rattle.np_kinds.specs.Prelude.{IsWorkload, is_alone, pair_allows}
 
 -- ---- the first of a list in a loop
 

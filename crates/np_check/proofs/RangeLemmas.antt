@@ -4,9 +4,8 @@ use Rattle.std.specs.List.{find, range_with_len}
 use Rattle.std.proofs.lemmas.Bool.{cases_lt, le-leb, lt-leb, or_left}
 use Rattle.np_base.proofs.Ranges.{holds-before, is_within-inside, is_within-past}
 use Rattle.np_base.specs.Ranges.{IsAscending, holds}
-use Rattle.np_check.specs.Types.{Range}
+use Rattle.np_check.specs.Prelude.{Range, first_common, first_number}
 use Rattle.np_check.proofs.FirstLemmas.{find-at, find-none, find-same}
-use Rattle.np_check.specs.steps.Broken.{first_common, first_number}
 
 -- a range that does not end before the first of the numbers
 first_there : (range : Range ℕ) (ranges : List (Range ℕ)) (last low high count : ℕ) → low + count ≡ high + 1 → IsAscending (λ a. a) range.lo last (range ∷ ranges) → low ≤ range.hi →

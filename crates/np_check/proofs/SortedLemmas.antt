@@ -3,10 +3,8 @@ use Rattle.std.proofs.Common.{◌≡◌, ℕ, zero, suc, ◌+◌, ◌<◌, ◌�
 use Rattle.std.specs.Prelude.{filter}
 use Rattle.std.specs.List.{AllByRecursion, range_with_len}
 use Rattle.std.proofs.lemmas.Bool.{and_from, and_parts, cases_Bool, le-leb, le-ltb, leb-true, lt-ltb, ltb-true, true≢false}
-use Rattle.np_check.specs.Types.{Address, At, Family, Four, PlaceEnd, Proto, Sctp, Six, Tcp, Udp, Work}
+use Rattle.np_check.specs.Prelude.{Address, At, Family, Four, PlaceEnd, Proto, Sctp, Six, Tcp, Udp, Work, address_before, ascends_from, comes_before, family_before, proto_before}
 use Rattle.np_addr.specs.declared.address.Family.TheVariants as family
-use Rattle.np_check.specs.Numbers.{ascends_from}
-use Rattle.np_check.specs.Order.{address_before, comes_before, family_before, proto_before}
 use Rattle.np_base.proofs.Each.{All-append}
 
 -- ---- lists

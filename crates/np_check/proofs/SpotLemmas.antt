@@ -6,11 +6,9 @@ use Rattle.std.proofs.lemmas.Bool.{and_from, le-leb, or_left}
 use Rattle.std.proofs.lemmas.Option.{none-some, same_Some}
 use Rattle.np_base.proofs.Ranges.{holds-before, is_within-inside}
 use Rattle.np_base.specs.Ranges.{IsAscending, holds}
-use Rattle.np_check.specs.Types.{PortSpot, Proto, Range, Sctp, Tcp, Udp, Wanted}
+use Rattle.np_check.specs.Prelude.{PortSpot, Proto, Range, Sctp, Tcp, Udp, Wanted, breaks, complies, first_of_ports, first_of_proto, first_spot}
 use Rattle.np_check.proofs.FirstLemmas.{find-at, find-none, find-same, first_of-same}
-use Rattle.np_check.specs.Counterexamples.{breaks, complies}
-use Rattle.np_check.specs.Firsts.{first_of_ports, first_of_proto, first_spot}
-use Rattle.np_conns.specs.Conns.{AscendsInPorts, Conns, has_spot, is_spot, ranges_of}
+use Rattle.np_conns.specs.Prelude.{AscendsInPorts, Conns, has_spot, is_spot, ranges_of}
 
 first_of_ports-same : (passes passes' : PortSpot → Bool) (proto : Proto) (first count : ℕ) →
     ((port : ℕ) → first ≤ port → port < first + count → passes (record { proto = proto; port = port }) ≡ passes' (record { proto = proto; port = port })) →

@@ -1,12 +1,10 @@
 -- The first packet of all, by workloads and by addresses as sources. For `Checker::check`.
 use Rattle.std.proofs.Common.{◌≡◌, ℕ, Option, None, map, refl, ap, ◌∙◌}
 use Rattle.std.specs.Option.{option_or}
-use Rattle.np_check.specs.Types.{Address, At, Counterexample, Ends, EstateLists, Question, Wanted, Work}
+use Rattle.np_check.specs.Prelude.{Address, At, Counterexample, Ends, EstateLists, Question, Wanted, Work, addresses_of, counterexample_between, counterexample_from, counterexample_of, first_of}
 use Rattle.np_check.proofs.FirstLemmas.{first_of-append, first_of-map, first_of-none, first_of-same}
 use Rattle.np_base.proofs.Options.{option_or-none}
-use Rattle.np_check.specs.Counterexamples.{addresses_of, counterexample_between, counterexample_from, counterexample_of}
-use Rattle.np_check.specs.Firsts.{first_of}
-use Rattle.np_conns.specs.Conns.{Conns}
+use Rattle.np_conns.specs.Prelude.{Conns}
 
 -- no packet of two addresses is spoken of
 between_addresses : (lists : EstateLists) (wanted : Wanted) (conns : Conns) (address other : Address) → counterexample_between lists wanted conns (At address) (At other) ≡ None

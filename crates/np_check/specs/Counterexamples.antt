@@ -1,14 +1,13 @@
 -- The first packet that breaks a statement.
 use Rattle.std.specs.Prelude.{ℕ, ◌^◌, List, [], ◌∷◌, ◌++◌, Bool, true, not, ◌&&◌, map, filter, Option, option_map, if◌then◌else◌}
 use Rattle.std.specs.List.{range_with_len}
-use Rattle.np_addr.specs.Addresses.{family_of}
-use Rattle.np_addr.specs.Blocks.{AddressRanges, set_has}
+use Rattle.np_addr.specs.Prelude.{AddressRanges, family_of, set_has}
 use Rattle.np_check.specs.Types.{Address, Allow, At, Counterexample, Deny, Egress, Ends, EstateLists, Family, Four, Ingress, PlaceEnd, PortSpot, Question, Six, Wanted, Work}
 use Rattle.np_check.specs.Firsts.{first_of, first_spot}
-use Rattle.np_conns.specs.Conns.{Conns, has_spot}
-use Rattle.np_model.specs.Families.{families_of}
-use Rattle.np_fold.specs.Workloads.{folding_of}
-use Rattle.np_kinds.specs.Between.{address_allows, is_alone, pair_allows}
+use Rattle.np_conns.specs.Prelude.{Conns, has_spot}
+use Rattle.np_model.specs.Prelude.{families_of}
+use Rattle.np_fold.specs.Prelude.{folding_of}
+use Rattle.np_kinds.specs.Prelude.{address_allows, is_alone, pair_allows}
 
 -- ---- ends
 

@@ -4,7 +4,7 @@ use Rattle.np_check.specs.Counterexamples.{allows_between, breaks, families_betw
 use Rattle.np_check.specs.Holding.{HasAddress}
 use Rattle.np_check.specs.Order.{comes_before, family_before, proto_before}
 use Rattle.np_check.specs.Types.{At, Counterexample, Ends, EstateLists, PlaceEnd, Question, Work}
-use Rattle.np_conns.specs.Conns.{is_spot}
+use Rattle.np_conns.specs.Prelude.{is_spot}
 
 -- the end is one of a side
 abbrev pub IsEndOf : Ends → PlaceEnd → Type 0

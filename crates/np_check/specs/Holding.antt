@@ -1,15 +1,13 @@
 -- When a statement holds, pod by pod and address by address.
 use Rattle.std.specs.Prelude.{◌≡◌, ◌≢◌, ◌<◌, ℕ, true, Contains, length}
-use Rattle.np_addr.specs.Addresses.{IsAddress, family_of}
-use Rattle.np_addr.specs.Blocks.{set_has}
+use Rattle.np_addr.specs.Prelude.{IsAddress, family_of, set_has}
 use Rattle.np_check.specs.Types.{Address, Egress, Ends, EstateLists, Family, Ingress, PortSpot, Question}
 use Rattle.np_check.specs.Counterexamples.{complies, number_of_address}
-use Rattle.np_conns.specs.Conns.{has_spot, is_spot}
-use Rattle.np_model.specs.Families.{families_of}
-use Rattle.np_fold.specs.Workloads.{number_of}
-use Rattle.np_rules.specs.model.Ends.{pod}
-use Rattle.np_rules.specs.model.Verdict.{pod_at}
-use Rattle.np_kinds.specs.Between.{between_pods, with_address}
+use Rattle.np_conns.specs.Prelude.{has_spot, is_spot}
+use Rattle.np_model.specs.Prelude.{families_of}
+use Rattle.np_fold.specs.Prelude.{number_of}
+use Rattle.np_rules.specs.Prelude.{pod, pod_at}
+use Rattle.np_kinds.specs.Prelude.{between_pods, with_address}
 
 -- the pod at a place is one of the workloads of a side
 abbrev pub IsOf : EstateLists → ℕ → Ends → Type 0

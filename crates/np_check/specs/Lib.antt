@@ -4,5 +4,6 @@ pub mod Firsts
 pub mod Holding
 pub mod Numbers
 pub mod Order
-pub mod Types
+pub mod Prelude
 pub mod steps
+pub mod Types

@@ -1,6 +1,6 @@
 -- Numbers that ascend, and sides without addresses.
 use Rattle.std.specs.Prelude.{◌≡◌, ◌⊎◌, ◌+◌, ℕ, List, [], ◌∷◌, Bool, true, ◌&&◌, nat_le}
-use Rattle.np_addr.specs.Blocks.{AddressRanges}
+use Rattle.np_addr.specs.Prelude.{AddressRanges}
 
 -- whether the first number is at least this, and each next one greater than the one before it
 abbrev pub ascends_from : ℕ → List ℕ → Bool

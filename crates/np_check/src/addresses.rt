@@ -1,7 +1,6 @@
 //! Packets between a workload and addresses.
 ghost use Rattle.std.specs.Prelude.{◌≡◌, ◌<◌, ℕ, Bool, None, Some, All, IfOk, MatchOption, map, option_map, false, true};
-ghost use Rattle.np_addr.specs.Addresses.{family_of};
-ghost use Rattle.np_addr.specs.Blocks.{IsAddressSet};
+ghost use Rattle.np_addr.specs.Prelude.{IsAddressSet, family_of};
 ghost use Rattle.np_addr.specs.declared.address.Family.{Family};
 ghost use Rattle.np_base.specs.Ranges.{holds, IsAscending};
 ghost use Rattle.np_check.specs.Counterexamples.{addresses_of, counterexample_between};
@@ -9,8 +8,8 @@ ghost use Rattle.np_check.specs.Firsts.{first_of};
 ghost use Rattle.np_check.specs.steps.Broken as spec;
 ghost use Rattle.np_check.specs.declared.counterexample.PlaceEnd.TheVariants.{At, Work};
 ghost use Rattle.np_conns.specs.declared.port_spot.PortSpot.{PortSpot};
-ghost use Rattle.np_table.specs.Rows.{rows_of_addresses};
-ghost use Rattle.np_kinds.specs.Between.{IsWorkload};
+ghost use Rattle.np_table.specs.Prelude.{rows_of_addresses};
+ghost use Rattle.np_kinds.specs.Prelude.{IsWorkload};
 
 use crate::asked::Asked;
 use crate::checker::Checker;

@@ -3,7 +3,7 @@ ghost use Rattle.std.specs.Prelude.{◌≡◌, IfOk};
 ghost use Rattle.np_check.specs.Counterexamples.{breaks};
 ghost use Rattle.np_check.specs.Firsts as spec;
 ghost use Rattle.np_check.specs.steps.Pairs.{is_deny};
-ghost use Rattle.np_conns.specs.Conns.{has_spot};
+ghost use Rattle.np_conns.specs.Prelude.{has_spot};
 ghost use Rattle.np_conns.specs.declared.port_spot.PortSpot.{PortSpot};
 
 use crate::question::Wanted;

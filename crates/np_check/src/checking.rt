@@ -1,10 +1,8 @@
 //! Packets from workloads.
 ghost use Rattle.std.specs.Prelude.{◌≡◌, All, IfOk};
-ghost use Rattle.np_check.specs.Counterexamples.{counterexample_from};
-ghost use Rattle.np_check.specs.Firsts.{first_of};
-ghost use Rattle.np_check.specs.steps.Pairs.{AreSettled};
+ghost use Rattle.np_check.specs.Prelude.{AreSettled, counterexample_from, first_of};
 ghost use Rattle.np_check.specs.declared.counterexample.PlaceEnd.TheVariants.{Work};
-ghost use Rattle.np_kinds.specs.Between.{IsWorkload};
+ghost use Rattle.np_kinds.specs.Prelude.{IsWorkload};
 
 use crate::addresses::first_to_addresses;
 use crate::asked::Asked;

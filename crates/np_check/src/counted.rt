@@ -1,10 +1,8 @@
 //! What np_table finds. It counts the rules that it looks at; nobody asks here how many they were.
 ghost use Rattle.std.specs.Prelude.{◌≡◌, ◌<◌, false, IfOk};
-ghost use Rattle.np_fold.specs.Workloads.{folding_of};
-ghost use Rattle.np_kinds.specs.Between.{IsWorkload, is_alone, pair_allows};
-ghost use Rattle.np_table.specs.Right.{conns_of};
-ghost use Rattle.np_table.specs.Rows.{address_rows};
-ghost use Rattle.np_table.specs.Table.{estate_table};
+ghost use Rattle.np_fold.specs.Prelude.{folding_of};
+ghost use Rattle.np_kinds.specs.Prelude.{IsWorkload, is_alone, pair_allows};
+ghost use Rattle.np_table.specs.Prelude.{address_rows, conns_of, estate_table};
 
 use np_addr::Family;
 use np_base::{NoMemory, Seq, Steps};

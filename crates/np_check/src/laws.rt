@@ -1,14 +1,11 @@
 //! What follows from the definitions. Each law is the contract of a call that does nothing.
 ghost use Rattle.std.specs.Prelude.{◌≡◌, ◌↔◌, None, Some, All, true};
-ghost use Rattle.np_check.specs.Counterexamples.{counterexample_of};
-ghost use Rattle.np_check.specs.FirstPacket.{IsBroken, IsFirstBroken};
-ghost use Rattle.np_check.specs.Holding.{Holds};
-ghost use Rattle.np_check.specs.Numbers.{is_ascending};
+ghost use Rattle.np_check.specs.Prelude.{Holds, IsBroken, IsFirstBroken, counterexample_of, is_ascending};
 ghost use Rattle.np_check.specs.declared.counterexample.Counterexample.{Counterexample};
 ghost use Rattle.np_check.specs.declared.question.Question.{Question};
-ghost use Rattle.np_model.specs.Lawful.{IsLawful};
+ghost use Rattle.np_model.specs.Prelude.{IsLawful};
 ghost use Rattle.np_model.specs.declared.lists.EstateLists.{EstateLists};
-ghost use Rattle.np_kinds.specs.Between.{IsWorkload};
+ghost use Rattle.np_kinds.specs.Prelude.{IsWorkload};
 
 /// `check` finds nothing exactly where the statement holds: where every packet that it speaks of complies, between every
 /// two different pods of its workloads, and between every pod of them and every address of its blocks.

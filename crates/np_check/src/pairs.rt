@@ -1,11 +1,9 @@
 //! Packets between workloads.
 ghost use Rattle.std.specs.Prelude.{◌≡◌, ◌<◌, false, All, IfOk, length};
-ghost use Rattle.np_check.specs.Counterexamples.{counterexample_between, counterexample_in};
-ghost use Rattle.np_check.specs.Firsts.{first_of};
-ghost use Rattle.np_check.specs.steps.Pairs.{AreSettled};
+ghost use Rattle.np_check.specs.Prelude.{AreSettled, counterexample_between, counterexample_in, first_of};
 ghost use Rattle.np_check.specs.declared.counterexample.PlaceEnd.TheVariants.{Work};
-ghost use Rattle.np_fold.specs.Workloads.{folding_of};
-ghost use Rattle.np_kinds.specs.Between.{IsWorkload, is_alone};
+ghost use Rattle.np_fold.specs.Prelude.{folding_of};
+ghost use Rattle.np_kinds.specs.Prelude.{IsWorkload, is_alone};
 
 use crate::asked::Asked;
 use crate::checker::Checker;

@@ -1,11 +1,8 @@
 -- How many rules a run looks at. For `run_job` and `run`.
 use Rattle.std.proofs.Common.{◌≡◌, ℕ, ◌≤◌, List, Option, None, Some, arith, subst}
-use Rattle.np_cli.specs.Counts.{Counted, RoseAtMost, most_steps, steps_in}
-use Rattle.np_cli.specs.Runs.{ran}
-use Rattle.np_command.specs.Sinks.{SinkTrace}
-use Rattle.np_frame.specs.Sources.{AreTold, SourceTrace}
-use Rattle.np_frame.specs.Words.{names_of, objects_of}
-use Rattle.np_cli.specs.Types.{Job}
+use Rattle.np_cli.specs.Prelude.{Counted, Job, RoseAtMost, most_steps, ran, steps_in}
+use Rattle.np_command.specs.Prelude.{SinkTrace}
+use Rattle.np_frame.specs.Prelude.{AreTold, SourceTrace, names_of, objects_of}
 
 -- no rule was looked at
 RoseAtMost-still : (most : Option ℕ) (steps : ℕ) → RoseAtMost most steps steps

@@ -2,16 +2,11 @@
 use Rattle.std.proofs.Common.{◌≡◌, ℕ, List, Option, None, Some, Result, Ok, Err, refl, subst, ap, ◌∙◌}
 use Rattle.np_cli.proofs.PromisesLemmas.{one_job}
 use Rattle.np_cli.proofs.RunsLemmas.{output-fits}
-use Rattle.np_frame.specs.Words.{objects_of}
-use Rattle.np_cli.specs.Answers.{IsLawfulIn, ending, ending_in, ending_of, output, refusal, reply, reply_in, text_of}
-use Rattle.np_command.specs.Prints.{fault_in, text_in}
-use Rattle.np_cli.specs.Causes.{Cause}
-use Rattle.np_cli.specs.Runs.{Run, KnowsBytes}
-use Rattle.np_command.specs.Sinks.{SinkTrace, TookWhole}
-use Rattle.np_cli.specs.Statuses.{status_of}
-use Rattle.np_cli.specs.Types.{CannotRead, CannotWrite, Done, Ending, EstateLists, Failure, Fault, Job, NoMemory, Refused, ReportNotes, Status, TooLarge, Usage, Violated}
+use Rattle.np_frame.specs.Prelude.{objects_of}
+use Rattle.np_cli.specs.Prelude.{CannotRead, CannotWrite, Cause, Done, Ending, EstateLists, Failure, Fault, IsLawfulIn, Job, KnowsBytes, NoMemory, Refused, ReportNotes, Run, Status, TooLarge, Usage, Violated, ending, ending_in, ending_of, output, refusal, reply, reply_in, status_of, text_of}
+use Rattle.np_command.specs.Prelude.{SinkTrace, TookWhole, fault_in, text_in}
 use Rattle.np_command.specs.declared.status.Status.TheVariants as status
-use Rattle.np_model.specs.Lawful.{IsLawful}
+use Rattle.np_model.specs.Prelude.{IsLawful}
 
 -- the bytes are those of a lawful estate, the job's reply on it is no fault, the sink took its text, and the report ends so
 pub record IsWritten (out : SinkTrace) (job : Job) (texts : List (List ℕ)) (ends : Ending) : Type 0 where

@@ -1,26 +1,18 @@
 -- What reports say, from what was written of them. For `np_main`.
 use Rattle.std.proofs.Common.{◌≡◌, ℕ, List, Bool, true, false, Option, Some, None, Result, Ok, Err, refl, sym, subst, ◌∙◌}
-use Rattle.np_cli.specs.Types.{CannotRead, CannotWrite, Check, Done, Ending, EstateLists, Evaluate, Explain, Exposure, Failure, Fault, Flatten, Job, List as ListJob, NoMemory, Refused, ReportNotes, Sample, Status, TooLarge, Unused, Usage, Violated}
+use Rattle.np_cli.specs.Prelude.{CannotRead, CannotWrite, Cause, Check, Done, Ending, EstateLists, Evaluate, Explain, Exposure, Failure, Fault, Flatten, Job, List as ListJob, NoMemory, Refused, RefusesFor, ReportNotes, Run, Sample, Says, SaysOfInputs, Status, TooLarge, Unused, Usage, Violated, ending, ending_status, ends_so, holds, reply, report_notes, status_of}
 use Rattle.np_cli.proofs.DoneLemmas.{written-told}
-use Rattle.np_frame.specs.Words.{objects_of}
-use Rattle.np_cli.specs.Answers.{ending, ends_so, holds, reply, report_notes}
-use Rattle.np_cli.specs.Causes.{Cause}
-use Rattle.np_cli.specs.Outcomes.{RefusesFor, Says}
-use Rattle.np_cli.specs.Promises.{SaysOfInputs}
-use Rattle.np_cli.specs.Runs.{Run}
-use Rattle.np_cli.specs.Statuses.{ending_status, status_of}
-use Rattle.np_command.specs.Prints.{fault_in, text_in}
-use Rattle.np_command.specs.Sinks.{SinkTrace, TookWhole}
-use Rattle.np_command.specs.Statuses.{failure_status}
+use Rattle.np_frame.specs.Prelude.{objects_of}
+use Rattle.np_command.specs.Prelude.{SinkTrace, TookWhole, failure_status, fault_in, text_in}
 use Rattle.np_command_check.proofs.PromiseLemmas.{promised-broken, promised-held, refused as check_refused}
-use Rattle.np_command_check.specs.Report.{all_hold, statement_bytes}
+use Rattle.np_command_check.specs.Prelude.{all_hold, statement_bytes}
 use Rattle.np_command_evaluate.proofs.PromiseLemmas.{promised as evaluate_promised, refused as evaluate_refused}
 use Rattle.np_command_explain.proofs.PromiseLemmas.{promised as explain_promised, refused as explain_refused}
 use Rattle.np_command_exposure.proofs.PromiseLemmas.{promised as exposure_promised, refused as exposure_refused}
 use Rattle.np_command_flatten.proofs.PromiseLemmas.{promised as flatten_promised, refused as flatten_refused}
 use Rattle.np_command_list.proofs.PromiseLemmas.{promised as list_promised, refused as list_refused}
 use Rattle.np_command_unused.proofs.PromiseLemmas.{promised as unused_promised}
-use Rattle.np_model.specs.Lawful.{IsLawful}
+use Rattle.np_model.specs.Prelude.{IsLawful}
 
 -- ---- what a report says
 

@@ -2,24 +2,17 @@
 use Rattle.std.proofs.Common.{◌≡◌, ℕ, List, [], ◌∷◌, ◌++◌, Bool, true, false, Option, Some, None, Result, Ok, Err, refl, sym, ap, subst, ◌∙◌, inl, inr}
 use Rattle.std.specs.Io.KnownBytes.{append_known}
 use Rattle.std.specs.Prelude.{◌⊎◌}
-use Rattle.np_io.specs.Taken.{TookFront, TookLess}
+use Rattle.np_io.specs.Prelude.{TookFront, TookLess}
 use Rattle.np_io.proofs.TakenLemmas.{append_known-nil}
-use Rattle.np_cli.specs.Types.{CannotRead, CannotWrite, Check, Done, Ending, EstateLists, Evaluate, Explain, Exposure, Failure, Fault, Flatten, Job, List as ListJob, NoMemory, Refused, Sample, TooLarge, Unused, Usage, Violated}
+use Rattle.np_cli.specs.Prelude.{CannotRead, CannotWrite, Cause, Check, Done, Ending, EstateLists, Evaluate, Explain, Exposure, Failure, Fault, Flatten, HaveFault, IsReportOn, Job, Leaves, List as ListJob, NoMemory, NotesLeftOut, Refused, RefusesFor, Run, Sample, TooLarge, Unused, Usage, Violated, ending, ending_in, ending_of, ends_so, holds, output, refusal, reply, reply_in, report_notes, taking, text_of}
 use Rattle.np_cli.proofs.HeadlineLemmas.{refuses-for, says-of}
 use Rattle.np_cli.proofs.RunsLemmas.{output-fits}
-use Rattle.np_cli.specs.Answers.{ending, ending_in, ending_of, ends_so, holds, output, refusal, reply, reply_in, report_notes, text_of}
-use Rattle.np_cli.specs.Causes.{Cause}
-use Rattle.np_cli.specs.Outcomes.{HaveFault, IsReportOn, Leaves, NotesLeftOut, RefusesFor, taking}
-use Rattle.np_cli.specs.Runs.{Run}
-use Rattle.np_frame.specs.Sources.{is_too_large}
-use Rattle.np_frame.specs.Words.{inputs_of, object_texts, objects_of}
+use Rattle.np_frame.specs.Prelude.{inputs_of, is_too_large, object_texts, objects_of}
 use Rattle.np_command.proofs.InputLemmas.{read-small}
-use Rattle.np_command.specs.Inputs.{lists_of}
-use Rattle.np_command.specs.Prints.{fault_in, text_in}
-use Rattle.np_command.specs.Sinks.{SinkTrace}
+use Rattle.np_command.specs.Prelude.{SinkTrace, fault_in, lists_of, text_in}
 use Rattle.np_command_flatten.proofs.LawfulReads.{estate-lawful}
-use Rattle.np_model.specs.Lawful.{IsLawful}
-use Rattle.np_reading.specs.Reading.{estate_of}
+use Rattle.np_model.specs.Prelude.{IsLawful}
+use Rattle.np_reading.specs.Prelude.{estate_of}
 
 -- ---- what is read is lawful
 

@@ -4,21 +4,11 @@ use Rattle.std.specs.Io.KnownBytes.{append_known}
 use Rattle.std.specs.Prelude.{◌⊎◌, Contains, IsErrAnd}
 use Rattle.std.proofs.lemmas.Bool.{both_ways}
 use Rattle.np_io.proofs.TakenLemmas.{TookLess-not_all}
-use Rattle.np_io.specs.Counts.{Rose}
-use Rattle.np_io.specs.Taken.{TookLess}
-use Rattle.np_cli.specs.Answers.{ending_of, output, refusal}
-use Rattle.np_cli.specs.Messages.{message}
-use Rattle.np_cli.specs.Bytes.{AcknowledgesReport, Completes, RefusesFaults}
-use Rattle.np_cli.specs.Causes.{Cause}
-use Rattle.np_cli.specs.Promises.{IsStill, RefusesTooLarge, RefusesMore, BlamesDevice, BlamesWords}
-use Rattle.np_cli.specs.Runs.{Run}
-use Rattle.np_command.specs.Messages.{NamesSomething}
-use Rattle.np_command.specs.Sinks.{SinkTrace, Said}
-use Rattle.np_frame.specs.Sources.{FailedAt, SourceTrace}
-use Rattle.np_cli.specs.Statuses.{ending_status, status_of}
-use Rattle.np_frame.specs.Words.{names_asked}
+use Rattle.np_io.specs.Prelude.{Rose, TookLess}
+use Rattle.np_cli.specs.Prelude.{AcknowledgesReport, BlamesDevice, BlamesWords, CannotRead, CannotWrite, Cause, Completes, Done, Ending, Failure, Fault, IsStill, Job, NoMemory, Refused, RefusesFaults, RefusesMore, RefusesTooLarge, Run, Status, TooLarge, Usage, Violated, ending_of, ending_status, message, output, refusal, status_of}
+use Rattle.np_command.specs.Prelude.{NamesSomething, Said, SinkTrace}
+use Rattle.np_frame.specs.Prelude.{FailedAt, SourceTrace, names_asked}
 use Rattle.np_frame.proofs.SourcesLemmas.{Contains-middle}
-use Rattle.np_cli.specs.Types.{CannotRead, CannotWrite, Done, Ending, Failure, Fault, Job, NoMemory, Refused, Status, TooLarge, Usage, Violated}
 use Rattle.np_command.specs.declared.status.Status.TheVariants as status
 
 still_or_rose : (old new : ℕ) → IsStill old new → Rose old new → ⊥

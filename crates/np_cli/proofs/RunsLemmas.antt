@@ -2,26 +2,17 @@
 use Rattle.std.proofs.Common.{◌≡◌, ℕ, ◌≤◌, List, [], ◌∷◌, ◌++◌, Option, Some, None, false, refl, sym, ap, subst, ◌∙◌, append_assoc, append-nil, Result, Ok, Err, inl, inr}
 use Rattle.std.specs.Prelude.{◌⊎◌, IsErrAnd}
 use Rattle.std.proofs.lemmas.Bool.{le-ltb}
-use Rattle.np_io.specs.Taken.{TookFront, TookLess}
+use Rattle.np_io.specs.Prelude.{TookFront, TookLess}
 use Rattle.np_frame.proofs.SourcesLemmas.{BeganNext-none}
-use Rattle.np_cli.specs.Answers.{ending_of, output, refusal, reply_in, text_of}
-use Rattle.np_command.specs.Prints.{fault_in, text_in}
-use Rattle.np_frame.specs.Failures.{source_failure}
-use Rattle.np_command.specs.Failures.{words_failure}
-use Rattle.np_cli.specs.Prints.{Answers}
-use Rattle.np_cli.specs.Causes.{Cause, IsAccepted, IsReported}
-use Rattle.np_cli.specs.Runs.{AskedNothing, Run, ran}
-use Rattle.np_command.specs.Sinks.{SinkTrace, IsKept, TookWhole}
-use Rattle.np_frame.specs.Sources.{AreTold, BeganFront, FailedAt, IsUntouched, OverLimit, ReadOnce, SourceTrace, Unread, is_too_large, total_size}
+use Rattle.np_cli.specs.Prelude.{Answers, AskedNothing, CannotRead, CannotWrite, Cause, Ending, Failure, Fault, IsAccepted, IsReported, Job, NoMemory, Refused, Run, TooLarge, Usage, ending_of, output, ran, refusal, reply_in, text_of}
+use Rattle.np_command.specs.Prelude.{IsKept, NamesSomething, SinkTrace, TookWhole, fault_in, text_in, words_failure}
+use Rattle.np_frame.specs.Prelude.{AreTold, BeganFront, FailedAt, IsUntouched, OverLimit, ReadOnce, SourceTrace, Unread, is_too_large, names_asked, names_of, objects_of, source_failure, total_size}
 use Rattle.np_frame.specs.declared.sources.TheConstants.{SIZE_LIMIT}
-use Rattle.np_frame.specs.Words.{names_asked, names_of, objects_of}
-use Rattle.np_cli.specs.Types.{CannotRead, CannotWrite, Ending, Failure, Fault, Job, NoMemory, Refused, TooLarge, Usage}
 use Rattle.np_frame.specs.declared.sources.SourceFault.{SourceFault}
 use Rattle.np_frame.specs.declared.sources.SourceFault.TheVariants as unread
 use Rattle.np_args.specs.declared.words_fault.WordsFault.{WordsFault}
 use Rattle.np_args.specs.declared.words_fault.WordsFault.TheVariants as words
 use Rattle.np_command.proofs.SinkLemmas.{TookLess-kept}
-use Rattle.np_command.specs.Messages.{NamesSomething}
 
 -- ---- names that were begun
 

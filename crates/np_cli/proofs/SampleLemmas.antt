@@ -3,22 +3,14 @@ use Rattle.std.proofs.Common.{◌≡◌, ℕ, ◌≤◌, List, [], ◌∷◌, No
 use Rattle.std.proofs.lemmas.Bool.{both_ways}
 use Rattle.np_cli.proofs.DoneLemmas.{done-told}
 use Rattle.np_cli.proofs.PromisesLemmas.{no_fault, one_job}
-use Rattle.np_cli.specs.Answers.{IsCountable, refusal, reply}
-use Rattle.np_command.specs.Inputs.{lists_of}
-use Rattle.np_cli.specs.Bytes.{SaysCounts}
-use Rattle.np_cli.specs.Causes.{Cause}
-use Rattle.np_cli.specs.Runs.{Run, KnowsBytes}
-use Rattle.np_command_sample.specs.Promise.{CountsAll}
-use Rattle.np_frame.specs.Sources.{AreTold}
-use Rattle.np_cli.specs.Statuses.{status_of}
-use Rattle.np_frame.specs.Words.{names_asked, objects_of}
-use Rattle.np_command_sample.specs.Report.{HasFewRows}
-use Rattle.np_cli.specs.Types.{CannotRead, CannotWrite, Done, Ending, EstateLists, Failure, Job, NoMemory, Refused, Sample as SampleJob, Status, TooLarge, Usage, Violated}
+use Rattle.np_cli.specs.Prelude.{CannotRead, CannotWrite, Cause, Done, Ending, EstateLists, Failure, IsCountable, Job, KnowsBytes, NoMemory, Refused, Run, Sample as SampleJob, SaysCounts, Status, TooLarge, Usage, Violated, refusal, reply, status_of}
+use Rattle.np_command.specs.Prelude.{lists_of}
+use Rattle.np_command_sample.specs.Prelude.{CountsAll, HasFewRows, sample_estate}
+use Rattle.np_frame.specs.Prelude.{AreTold, names_asked, objects_of}
 use Rattle.np_command.specs.declared.status.Status.TheVariants as status
 use Rattle.np_command_sample.proofs.RowCountLemmas.{length-rows-sample}
-use Rattle.np_command_sample.specs.Estate.{sample_estate}
-use Rattle.np_sample.specs.Sample.{sample_text}
-use Rattle.np_args.specs.Jobs.{IsWell}
+use Rattle.np_sample.specs.Prelude.{sample_text}
+use Rattle.np_args.specs.Prelude.{IsWell}
 use Rattle.np_args.specs.declared.job.Job.TheVariants as jobs
 use Rattle.np_command_sample.proofs.PromiseLemmas.{lists_of-sample, one_estate, promised}
 

@@ -1,19 +1,18 @@
 -- What a job prints for its inputs, or why it refuses them.
 use Rattle.std.specs.Prelude.{ℕ, List, [], Bool, true, false, Option, Some, None, Result, Ok, Err, if◌then◌else◌}
-use Rattle.np_model.specs.Lawful.{IsLawful}
+use Rattle.np_model.specs.Prelude.{IsLawful}
 use Rattle.np_cli.specs.Types.{Check, Done, Ending, EstateLists, Evaluate, Explain, Exposure, Fault, Flatten, Job, List as ListJob, ReportNotes, Sample, Unused, Violated}
-use Rattle.np_frame.specs.Sources.{is_too_large}
-use Rattle.np_frame.specs.Words.{objects_of}
-use Rattle.np_command_check.specs.Report.{statement_bytes, all_hold, check_reply}
+use Rattle.np_frame.specs.Prelude.{is_too_large, objects_of}
+use Rattle.np_command_check.specs.Prelude.{all_hold, check_reply, statement_bytes}
 use Rattle.np_command_evaluate.specs.Report.{evaluate_reply}
-use Rattle.np_command_explain.specs.Report.{explain_reply}
+use Rattle.np_command_explain.specs.Prelude.{explain_reply}
 use Rattle.np_command_exposure.specs.Report.{exposure_reply}
-use Rattle.np_command_flatten.specs.Report.{flatten_reply}
-use Rattle.np_command_list.specs.Report.{list_reply}
-use Rattle.np_command_sample.specs.Report.{HasFewRows, sample_summary}
+use Rattle.np_command_flatten.specs.Prelude.{flatten_reply}
+use Rattle.np_command_list.specs.Prelude.{list_reply}
+use Rattle.np_command_sample.specs.Prelude.{HasFewRows, sample_summary}
 use Rattle.np_command_unused.specs.Report.{unused_text}
-use Rattle.np_routes.specs.RouteNotes.{notes_of_routes}
-use Rattle.np_command.specs.Prints.{fault_in, text_in}
+use Rattle.np_routes.specs.Prelude.{notes_of_routes}
+use Rattle.np_command.specs.Prelude.{fault_in, text_in}
 
 -- ---- what is printed
 

@@ -5,9 +5,9 @@ use Rattle.np_cli.specs.Causes.{EndsExactly, IsAccepted}
 use Rattle.np_cli.specs.Messages.{message}
 use Rattle.np_cli.specs.Promises.{IsStill, NoInputFailed}
 use Rattle.np_cli.specs.Runs.{Run, KnowsBytes}
-use Rattle.np_command_sample.specs.Promise.{CountsAll}
-use Rattle.np_command.specs.Sinks.{SinkTrace, IsKept, TookWhole, Said}
-use Rattle.np_frame.specs.Sources.{is_too_large}
+use Rattle.np_command_sample.specs.Prelude.{CountsAll}
+use Rattle.np_command.specs.Prelude.{IsKept, Said, SinkTrace, TookWhole}
+use Rattle.np_frame.specs.Prelude.{is_too_large}
 use Rattle.np_cli.specs.Statuses.{ending_status}
 use Rattle.np_command.specs.declared.failure.Failure.TheVariants as failure
 use Rattle.np_cli.specs.Types.{Fault, Job, Sample as SampleJob, Status}

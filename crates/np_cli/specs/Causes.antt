@@ -1,14 +1,12 @@
 -- Why a run ends as it does, to the byte.
 use Rattle.std.specs.Prelude.{◌≡◌, ℕ, List, false, Some, None, Result, Ok, Err}
-use Rattle.np_io.specs.Counts.{Rose}
-use Rattle.np_io.specs.Taken.{TookFront, TookLess}
+use Rattle.np_io.specs.Prelude.{Rose, TookFront, TookLess}
 use Rattle.np_cli.specs.Answers.{IsLawfulIn, ending_of, output, refusal}
 use Rattle.np_cli.specs.Messages.{message}
 use Rattle.np_cli.specs.Runs.{AskedNothing, KnowsBytes, ReadTooMuch, Run, StoppedReading}
-use Rattle.np_command.specs.Sinks.{SinkTrace, IsKept, TookWhole, Said}
-use Rattle.np_frame.specs.Sources.{BeganFront, ReadOnce, is_too_large}
+use Rattle.np_command.specs.Prelude.{IsKept, Said, SinkTrace, TookWhole}
+use Rattle.np_frame.specs.Prelude.{BeganFront, ReadOnce, is_too_large, names_asked, names_of, objects_of}
 use Rattle.np_cli.specs.Statuses.{status_of}
-use Rattle.np_frame.specs.Words.{names_asked, names_of, objects_of}
 use Rattle.np_cli.specs.Types.{CannotRead, CannotWrite, Ending, Failure, Fault, Job, NoMemory, Refused, Status, TooLarge, Usage}
 
 -- the inputs are not too large, and have no fault

@@ -1,9 +1,9 @@
 -- How many rules a job looks at.
 use Rattle.std.specs.Prelude.{◌≡◌, ℕ, ◌+◌, ◌≤◌, List, Option, Some, None, Result, Ok, Err}
-use Rattle.np_frame.specs.Words.{objects_of}
+use Rattle.np_frame.specs.Prelude.{objects_of}
 use Rattle.np_cli.specs.Runs.{Run, KnowsBytes}
 use Rattle.np_cli.specs.Types.{Check, EstateLists, Evaluate, Explain, Exposure, Fault, Flatten, Job, List as ListJob, Sample, Unused}
-use Rattle.np_command.specs.TableSteps.{list_steps}
+use Rattle.np_command.specs.Prelude.{list_steps}
 
 -- for a job on what its inputs say: for the two that make all rows of a table; no number is stated for the others
 unfoldable pub reply_steps : Job → EstateLists → Option ℕ

@@ -4,6 +4,7 @@ pub mod Causes
 pub mod Counts
 pub mod Messages
 pub mod Outcomes
+pub mod Prelude
 pub mod Prints
 pub mod Promises
 pub mod Runs

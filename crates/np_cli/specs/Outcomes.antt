@@ -1,22 +1,18 @@
 -- What a run leaves of its inputs and of the report's sink, by how it ends.
 use Rattle.std.specs.Prelude.{◌≡◌, ℕ, ◌⊎◌, List, false, Some, Result, Ok, Err}
 use Rattle.std.specs.Io.KnownBytes.{append_known}
-use Rattle.np_io.specs.Counts.{Rose}
-use Rattle.np_io.specs.Taken.{TookFront, TookLess}
+use Rattle.np_io.specs.Prelude.{Rose, TookFront, TookLess}
 use Rattle.np_cli.specs.Messages.{message}
 use Rattle.np_cli.specs.Runs.{AskedNothing, KnowsBytes, ReadTooMuch, Run, StoppedReading}
-use Rattle.np_frame.specs.Sources.{BeganFront, ReadOnce, is_too_large}
+use Rattle.np_frame.specs.Prelude.{BeganFront, ReadOnce, inputs_of, is_too_large, names_asked, names_of}
 use Rattle.np_cli.specs.Statuses.{status_of}
-use Rattle.np_frame.specs.Words.{inputs_of, names_asked, names_of}
-use Rattle.np_command.specs.Inputs.{lists_of}
-use Rattle.np_command.specs.Sinks.{SinkTrace, IsKept, Said}
-use Rattle.np_command_check.specs.Promise.{ChecksAll, FindsBroken, RefusesCheck}
-use Rattle.np_command_check.specs.Report.{statement_bytes}
+use Rattle.np_command.specs.Prelude.{IsKept, Said, SinkTrace, lists_of}
+use Rattle.np_command_check.specs.Prelude.{ChecksAll, FindsBroken, RefusesCheck, statement_bytes}
 use Rattle.np_command_evaluate.specs.Promise.{EvaluatesAll, RefusesEvaluate}
-use Rattle.np_command_explain.specs.Promise.{ExplainsAll, RefusesExplain}
+use Rattle.np_command_explain.specs.Prelude.{ExplainsAll, RefusesExplain}
 use Rattle.np_command_exposure.specs.Promise.{ExposesAll, RefusesExposure}
-use Rattle.np_command_flatten.specs.Promise.{FlattensAll, RefusesFlatten}
-use Rattle.np_command_list.specs.Promise.{RefusesList, SaysAll}
+use Rattle.np_command_flatten.specs.Prelude.{FlattensAll, RefusesFlatten}
+use Rattle.np_command_list.specs.Prelude.{RefusesList, SaysAll}
 use Rattle.np_command_unused.specs.Promise.{ListsUnused}
 use Rattle.np_cli.specs.Types.{CannotRead, CannotWrite, Check, Done, Ending, EstateLists, Evaluate, Explain, Exposure, Failure, Fault, Flatten, Job, List as ListJob, NoMemory, Refused, Sample, Status, TooLarge, Unused, Usage, Violated}
 

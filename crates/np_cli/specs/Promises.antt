@@ -1,13 +1,12 @@
 -- What a run promises, in the words of the model. To the byte it stands in Bytes.antt.
 use Rattle.std.specs.Prelude.{◌≡◌, ℕ, ◌+◌, ◌^◌, ◌<◌, ◌≤◌, ◌⊎◌, List, true, None, Option, Some, Contains, Err}
-use Rattle.np_io.specs.Counts.{Rose}
+use Rattle.np_io.specs.Prelude.{Rose}
 use Rattle.np_cli.specs.Messages.{message}
 use Rattle.np_cli.specs.Outcomes.{Ends, Says}
 use Rattle.np_cli.specs.Runs.{Run, KnowsBytes}
-use Rattle.np_command.specs.Sinks.{SinkTrace, IsKept, Said}
-use Rattle.np_frame.specs.Sources.{BeganFront, is_too_large}
+use Rattle.np_command.specs.Prelude.{IsKept, Said, SinkTrace}
+use Rattle.np_frame.specs.Prelude.{BeganFront, is_too_large, names_asked}
 use Rattle.np_cli.specs.Statuses.{ending_status}
-use Rattle.np_frame.specs.Words.{names_asked}
 use Rattle.np_command.specs.declared.failure.Failure.TheVariants as failure
 use Rattle.np_cli.specs.Types.{Ending, Job, Status}
 use Rattle.np_frame.specs.declared.sources.TheConstants.{SIZE_LIMIT}

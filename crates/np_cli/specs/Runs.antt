@@ -1,8 +1,7 @@
 -- A run of the top call, and what holds of runs that end before their inputs are read.
 use Rattle.std.specs.Prelude.{◌≡◌, ℕ, List, Option, None, is_some, true}
-use Rattle.np_frame.specs.Sources.{SourceTrace, AreTold, FailedAt, IsUntouched, OverLimit}
-use Rattle.np_frame.specs.Words.{names_asked}
-use Rattle.np_command.specs.Sinks.{SinkTrace, IsKept}
+use Rattle.np_frame.specs.Prelude.{AreTold, FailedAt, IsUntouched, OverLimit, SourceTrace, names_asked}
+use Rattle.np_command.specs.Prelude.{IsKept, SinkTrace}
 use Rattle.np_cli.specs.Types.{Job}
 
 -- a run: what the words ask for, and what it did to the source and to the sink of the report

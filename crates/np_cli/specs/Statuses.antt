@@ -3,7 +3,7 @@ use Rattle.std.specs.Prelude.{Result, Ok, Err}
 use Rattle.np_cli.specs.Types.{Ending, Failure, Status}
 use Rattle.np_cli.specs.declared.outcome.Ending.TheVariants as ending
 use Rattle.np_command.specs.declared.status.Status.TheVariants as status
-use Rattle.np_command.specs.Statuses.{failure_status}
+use Rattle.np_command.specs.Prelude.{failure_status}
 
 abbrev pub ending_status : Ending → Status
 ending_status (ending.Done notes) = status.Done

@@ -1,11 +1,10 @@
 //! What a job asks of what its bytes say, command by command.
 ghost use Rattle.std.specs.Prelude.{◌≡◌, ◌≤◌, IfOk, map};
 ghost use Rattle.np_cli.specs.Answers as spec;
-ghost use Rattle.np_cli.specs.Counts.{RoseAtMost, reply_steps};
-ghost use Rattle.np_command.specs.Prints.{Wrote, without_value};
-ghost use Rattle.np_command.specs.Sinks.{sunk};
-ghost use Rattle.np_command_check.specs.Report.{statement_bytes};
-ghost use Rattle.np_model.specs.Lawful.{IsLawful};
+ghost use Rattle.np_cli.specs.Prelude.{RoseAtMost, reply_steps};
+ghost use Rattle.np_command.specs.Prelude.{Wrote, sunk, without_value};
+ghost use Rattle.np_command_check.specs.Prelude.{statement_bytes};
+ghost use Rattle.np_model.specs.Prelude.{IsLawful};
 
 use np_args::Job;
 use np_base::{NoMemory, Seq, Steps};

@@ -1,18 +1,10 @@
 //! The top call: from the words of a command line and the bytes of its inputs to a report and a status.
 ghost use Rattle.std.specs.Prelude.{◌≡◌, ◌≤◌, ◌⊎◌, Err, IsErrAnd, Some, map};
-ghost use Rattle.np_frame.specs.Words.{objects_of};
-ghost use Rattle.np_cli.specs.Bytes.{Bytes};
-ghost use Rattle.np_cli.specs.Causes.{Cause};
-ghost use Rattle.np_cli.specs.Counts.{Counted, RoseAtMost, steps_in};
+ghost use Rattle.np_frame.specs.Prelude.{objects_of, sourced};
+ghost use Rattle.np_cli.specs.Prelude.{Answers, Bytes, Cause, Counted, Promises, RoseAtMost, ran, steps_in};
 ghost use Rattle.np_cli.specs.Messages as messages;
-ghost use Rattle.np_cli.specs.Prints.{Answers};
-ghost use Rattle.np_cli.specs.Promises.{Promises};
-ghost use Rattle.np_cli.specs.Runs.{ran};
-ghost use Rattle.np_command.specs.Messages.{NamesSomething, failure_text};
-ghost use Rattle.np_command.specs.Sinks.{Said, sunk};
-ghost use Rattle.np_frame.specs.Sources.{sourced};
-ghost use Rattle.np_args.specs.CommandLines.{asked_by};
-ghost use Rattle.np_args.specs.Jobs.{IsWell};
+ghost use Rattle.np_command.specs.Prelude.{NamesSomething, Said, failure_text, sunk};
+ghost use Rattle.np_args.specs.Prelude.{IsWell, asked_by};
 
 use crate::commands::{reply, report_notes};
 use crate::outcome::{Ending, Outcome, status_of};

@@ -3,9 +3,9 @@ use Rattle.std.proofs.Common.{◌≡◌, ℕ, List, [], Some, ◌<◌, length, g
 use Rattle.std.proofs.lemmas.List.Quantifiers.{position-Some}
 use Rattle.std.specs.Str.{bytes_eq}
 use Rattle.std.proofs.lemmas.Slice.Eq.{bytes_eq-Decides}
-use Rattle.np_command.specs.Types.{EstateLists, Fault}
-use Rattle.np_fold.specs.Workloads.{Workload, folding_of, number_named, workloads_of}
-use Rattle.np_kinds.specs.Between.{IsWorkload}
+use Rattle.np_command.specs.Prelude.{EstateLists, Fault}
+use Rattle.np_fold.specs.Prelude.{Workload, folding_of, number_named, workloads_of}
+use Rattle.np_kinds.specs.Prelude.{IsWorkload}
 
 abbrev pub no_workload : Workload
 no_workload = record { name = []; members = [] }

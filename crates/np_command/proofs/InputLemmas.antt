@@ -1,11 +1,10 @@
 -- What small inputs say is what they are read as. For crates above.
 use Rattle.std.proofs.Common.{◌≡◌, Bool, true, false, Result, Ok, Err, refl}
 use Rattle.std.specs.Prelude.{nat_le}
-use Rattle.np_command.specs.Inputs.{small_estate, small_reading}
-use Rattle.np_command.specs.Types.{EstateLists, Fault}
-use Rattle.np_fold.specs.Workloads.{workload_count}
+use Rattle.np_command.specs.Prelude.{EstateLists, Fault, small_estate, small_reading}
+use Rattle.np_fold.specs.Prelude.{workload_count}
 use Rattle.np_fold.specs.declared.workloads.TheConstants.{MOST_WORKLOADS}
-use Rattle.np_reading.specs.Readings.{Reading}
+use Rattle.np_reading.specs.Prelude.{Reading}
 
 abbrev Reads : EstateLists → EstateLists → Type 0
 Reads found lists = ◌≡◌ {A = Reading EstateLists} (Ok found) (Ok lists)

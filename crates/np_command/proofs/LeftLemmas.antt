@@ -1,11 +1,9 @@
 -- Writing the rows of a table one after another. For PuttingLemmas and crates above.
 use Rattle.std.proofs.Common.{◌≡◌, ℕ, List, [], ◌++◌, Option, Ok, Err, refl, sym, subst, ◌∙◌, append-nil}
 use Rattle.std.specs.Io.KnownBytes.{append_known}
-use Rattle.np_io.specs.Counts.{Rose}
-use Rattle.np_io.specs.Taken.{TookAllBut, TookFront}
+use Rattle.np_io.specs.Prelude.{Rose, TookAllBut, TookFront}
 use Rattle.np_io.proofs.TakenLemmas.{TookAllBut-all, TookAllBut-fault, TookAllBut-finish, TookAllBut-less, TookAllBut-put, TookAllBut-put_fault}
-use Rattle.np_command.specs.Sinks.{SinkTrace}
-use Rattle.np_command.specs.Written.{Writes}
+use Rattle.np_command.specs.Prelude.{SinkTrace, Writes}
 use Rattle.np_command.specs.declared.write_fault.WriteFault.TheVariants.{SinkFailed, NoMemory}
 
 abbrev pub between : Option (List ℕ) → Option (List ℕ) → ℕ → ℕ → SinkTrace

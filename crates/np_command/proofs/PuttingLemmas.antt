@@ -3,13 +3,10 @@ use Rattle.std.proofs.Common.{◌≡◌, ◌<◌, ◌≤◌, ◌+◌, ℕ, suc, 
 use Rattle.std.proofs.Math.Seq.{drop-cons}
 use Rattle.std.proofs.lemmas.List.{drop_all}
 use Rattle.np_command.proofs.LeftLemmas.{HasLeft, HasLeft-next, between}
-use Rattle.np_command.specs.Written.{Writes}
-use Rattle.np_command.specs.Types.{SinkFailed, WriteFault}
+use Rattle.np_command.specs.Prelude.{PutAll, SinkFailed, WriteFault, Writes}
 use Rattle.np_command.specs.declared.write_fault.WriteFault.TheVariants.{NoMemory}
-use Rattle.np_command.specs.steps.Putting.{PutAll}
 use Rattle.np_io.proofs.TakenLemmas.{TookAllBut-all, TookAllBut-put_fault, TookAllBut-put_less}
-use Rattle.np_io.specs.Counts.{Rose}
-use Rattle.np_io.specs.Taken.{TookAllBut}
+use Rattle.np_io.specs.Prelude.{Rose, TookAllBut}
 
 -- ---- texts
 

@@ -1,13 +1,12 @@
 -- What is due for all rows of a table is within what a list may count. For crates above.
 use Rattle.std.proofs.Common.{◌≡◌, ℕ, ◌+◌, ◌*◌, ◌≤◌, length, arith, refl, sym, subst, [], ◌∷◌, List, Option, None, Some}
 use Rattle.std.proofs.Math.Nat.{mul-le-mul_left, mul-le-mul_right}
-use Rattle.np_command.specs.TableSteps.{list_steps}
-use Rattle.np_command.specs.Types.{EstateLists}
+use Rattle.np_command.specs.Prelude.{EstateLists, list_steps}
 use Rattle.np_classes.specs.Classes.{firsts}
 use Rattle.np_fold.proofs.WorkloadLemmas.{workloads-count}
-use Rattle.np_fold.specs.Workloads.{Folding, folding_of, kinds_alike, workload_count}
+use Rattle.np_fold.specs.Prelude.{Folding, folding_of, kinds_alike, workload_count}
 use Rattle.np_fold.proofs.PartLemmas.{length-firsts}
-use Rattle.np_table.specs.ToCome.{most_rules}
+use Rattle.np_table.specs.Prelude.{most_rules}
 use Rattle.std.specs.Prelude.{MatchOption}
 use Rattle.np_table.specs.declared.rows.Row.{Row}
 

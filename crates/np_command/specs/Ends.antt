@@ -1,10 +1,9 @@
 -- Ends as words name them, and as they are printed.
 use Rattle.std.specs.Prelude.{ℕ, List, [], ◌∷◌, Option, Some, None, Result, Ok, Err}
-use Rattle.np_addr.specs.Addresses.{family_of}
-use Rattle.np_addr.specs.AddressText.{address_text}
+use Rattle.np_addr.specs.Prelude.{address_text, family_of}
 use Rattle.np_addr.specs.declared.address.Family.{Family}
 use Rattle.np_command.specs.Types.{EstateLists, Fault, UnknownEnd}
-use Rattle.np_model.specs.Families.{families_of}
+use Rattle.np_model.specs.Prelude.{families_of}
 use Rattle.np_rules.specs.declared.packet.End.{End}
 use Rattle.np_rules.specs.declared.packet.End.TheVariants as end
 use Rattle.np_args.specs.declared.end_word.EndWord.{EndWord}

@@ -1,10 +1,9 @@
 -- What the inputs say, or why they are refused.
 use Rattle.std.specs.Prelude.{◌≡◌, ℕ, List, Result, Ok, Err, if◌then◌else◌, nat_le}
-use Rattle.np_reading.specs.Reading.{estate_of}
+use Rattle.np_reading.specs.Prelude.{Reading, estate_of}
 use Rattle.np_command.specs.Types.{CannotRead, CannotWrite, EstateLists, Failure, Fault, Inputs, NoMemory, Refused, TooLarge, TooManyWorkloads, Usage}
-use Rattle.np_fold.specs.Workloads.{workload_count}
+use Rattle.np_fold.specs.Prelude.{workload_count}
 use Rattle.np_fold.specs.declared.workloads.TheConstants.{MOST_WORKLOADS}
-use Rattle.np_reading.specs.Readings.{Reading}
 
 -- the estate, unless it has too many workloads
 unfoldable pub small_estate : EstateLists → Result EstateLists Fault

@@ -2,10 +2,11 @@ pub mod Ends
 pub mod Failures
 pub mod Inputs
 pub mod Messages
+pub mod Prelude
 pub mod Prints
 pub mod Sinks
 pub mod Statuses
+pub mod steps
 pub mod TableSteps
 pub mod Types
 pub mod Written
-pub mod steps

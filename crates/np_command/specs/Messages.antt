@@ -1,7 +1,7 @@
 -- Failures, as the lines that tell of them.
 use Rattle.std.specs.Prelude.{ℕ, List, ◌++◌, codes, decimal}
-use Rattle.np_model.specs.Words.{direction_text}
-use Rattle.np_reading.specs.Refusals.{refusal_text}
+use Rattle.np_model.specs.Prelude.{direction_text}
+use Rattle.np_reading.specs.Prelude.{refusal_text}
 use Rattle.np_command.specs.Types.{Alike, BadStatement, CannotRead, CannotWrite, Failure, Fault, Inputs, NoMemory, Refused, SameEnd, Split, TooLarge, TooManyPatterns, TooManyWorkloads, UnknownEnd, Usage}
 
 abbrev pub fault_text : Fault → List ℕ

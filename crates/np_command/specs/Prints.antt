@@ -1,7 +1,6 @@
 -- What a command leaves of its report, once its inputs are read.
 use Rattle.std.specs.Prelude.{◌≡◌, ℕ, List, [], Option, Some, None, Result, Ok, Err, ⊤}
-use Rattle.np_io.specs.Counts.{Rose}
-use Rattle.np_io.specs.Taken.{TookFront, TookLess}
+use Rattle.np_io.specs.Prelude.{Rose, TookFront, TookLess}
 use Rattle.np_command.specs.Sinks.{SinkTrace, IsKept, TookWhole}
 use Rattle.np_command.specs.Types.{CannotRead, CannotWrite, Failure, Fault, NoMemory, Refused, TooLarge, Usage}
 

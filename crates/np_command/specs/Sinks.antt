@@ -1,8 +1,7 @@
 -- What a call did to a sink.
 use Rattle.std.specs.Prelude.{◌≡◌, ℕ, ◌⊎◌, List, Option}
 use Rattle.std.specs.Io.KnownBytes.{append_known}
-use Rattle.np_io.specs.Counts.{Rose}
-use Rattle.np_io.specs.Taken.{TookFront}
+use Rattle.np_io.specs.Prelude.{Rose, TookFront}
 
 -- what a sink took, and its count of faults, before a call and after it
 pub record SinkTrace : Type 0 where

@@ -1,8 +1,8 @@
 -- How many rules a table makes its rows of.
 use Rattle.std.specs.Prelude.{ℕ, ◌+◌, ◌*◌, length}
 use Rattle.np_command.specs.Types.{EstateLists}
-use Rattle.np_fold.specs.Workloads.{folding_of}
-use Rattle.np_table.specs.ToCome.{most_rules}
+use Rattle.np_fold.specs.Prelude.{folding_of}
+use Rattle.np_table.specs.Prelude.{most_rules}
 
 -- with so many workloads, of each of which so many rules speak in a direction at most
 abbrev pub table_steps : ℕ → ℕ → ℕ

@@ -1,7 +1,6 @@
 -- What a call that writes bytes piece by piece leaves.
 use Rattle.std.specs.Prelude.{ℕ, List, Result, Ok, Err, ⊤}
-use Rattle.np_io.specs.Counts.{Rose}
-use Rattle.np_io.specs.Taken.{TookFront, TookLess}
+use Rattle.np_io.specs.Prelude.{Rose, TookFront, TookLess}
 use Rattle.np_command.specs.Sinks.{SinkTrace, TookWhole}
 use Rattle.np_command.specs.Types.{SinkFailed, WriteFault}
 use Rattle.np_command.specs.declared.write_fault.WriteFault.TheVariants.{NoMemory}

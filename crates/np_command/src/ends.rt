@@ -1,9 +1,9 @@
 //! Ends as words name them, and as they are printed.
 ghost use Rattle.std.specs.Prelude.{◌≡◌, IfOk};
-ghost use Rattle.np_command.specs.Inputs.{Gives};
+ghost use Rattle.np_command.specs.Prelude.{Gives};
 ghost use Rattle.np_command.specs.Ends as spec;
-ghost use Rattle.np_fold.specs.Workloads.{folding_of, number_named};
-ghost use Rattle.np_kinds.specs.Between.{IsWorkload};
+ghost use Rattle.np_fold.specs.Prelude.{folding_of, number_named};
+ghost use Rattle.np_kinds.specs.Prelude.{IsWorkload};
 
 use crate::failure::Failure;
 use crate::fault::Fault;

@@ -2,21 +2,18 @@
 use Rattle.std.proofs.Common.{◌≡◌, List, not, Contains, Ok, sym, ap, subst}
 use Rattle.std.proofs.lemmas.Bool.{and_from, and_parts, not-true}
 use Rattle.std.proofs.lemmas.List.Elements.{All-contains}
-use Rattle.np_check.specs.Counterexamples.{allows_between, complies}
-use Rattle.np_check.specs.FirstPacket.{IsBroken, IsEndOf, IsFirstBroken}
-use Rattle.np_command_check.specs.Types.{AskedLine, At, Broken, Counterexample, EndForm, Ends, EstateLists, PlaceEnd, StatementLine, StatementText, Work}
+use Rattle.np_check.specs.Prelude.{IsBroken, IsEndOf, IsFirstBroken, allows_between, complies}
+use Rattle.np_command_check.specs.Prelude.{AskedLine, At, Breaks, BreaksFirst, Broken, Counterexample, EndForm, Ends, EstateLists, IsFirstBrokenLine, NamesPlace, PlaceEnd, StatementLine, StatementText, Work}
 use Rattle.np_check.specs.declared.question.Question.{Question}
 use Rattle.np_command_check.proofs.KnownLemmas.{pod-of}
-use Rattle.np_command_check.specs.FirstBroken.{Breaks, BreaksFirst, IsFirstBrokenLine, NamesPlace}
-use Rattle.np_conns.specs.Conns.{has_spot}
-use Rattle.np_fold.specs.Workloads.{folding_of}
-use Rattle.np_model.specs.Lawful.{IsLawful}
+use Rattle.np_conns.specs.Prelude.{has_spot}
+use Rattle.np_fold.specs.Prelude.{folding_of}
+use Rattle.np_model.specs.Prelude.{IsLawful}
 use Rattle.np_statements.proofs.EndLemmas.{ends_of-are}
 use Rattle.np_statements.proofs.FormLemmas.{names-addresses, names-pods}
 use Rattle.np_statements.proofs.FoundLemmas.{asked-by}
-use Rattle.np_statements.specs.Ends.{ends_of}
-use Rattle.np_statements.specs.FirstBrokenLine.{IsFirstBrokenLine as IsFoundLine}
-use Rattle.np_kinds.specs.Between.{IsWorkload, source_pod}
+use Rattle.np_statements.specs.Prelude.{IsFirstBrokenLine as IsFoundLine, ends_of}
+use Rattle.np_kinds.specs.Prelude.{IsWorkload, source_pod}
 
 -- ---- ends
 

@@ -1,6 +1,5 @@
 -- The statements that are read of a file are those of its lines. For OneListLemmas and PromiseLemmas.
-use Rattle.std.proofs.Common.{◌≡◌, ◌≢◌, ◌⊎◌, ℕ, zero, suc, ◌+◌, ◌<◌, ◌≤◌, List, [], ◌∷◌, ◌++◌, Bool, true, false, Option, Some, None, Result, Ok, Err, option_to_list, arith, refl, sym, ap, subst}
-use Rattle.std.proofs.Common.{◌∙◌, inl, inr}
+use Rattle.std.proofs.Common.{◌≡◌, ◌≢◌, ◌⊎◌, ℕ, zero, suc, ◌+◌, ◌<◌, ◌≤◌, List, [], ◌∷◌, ◌++◌, Bool, true, false, Option, Some, None, Result, Ok, Err, option_to_list, arith, refl, sym, ap, subst, ◌∙◌, inl, inr}
 use Rattle.std.specs.Prelude.{All, AllPairs, Contains}
 use Rattle.std.specs.List.{onto_first, slice_get, slice_split}
 use Rattle.std.specs.Str.{is_utf8}
@@ -10,16 +9,12 @@ use Rattle.std.proofs.lemmas.List.Kept.{AllPairs-cons}
 use Rattle.std.proofs.lemmas.List.Splits.{slice_split-cons_no, slice_split-cons_yes}
 use Rattle.std.proofs.lemmas.Option.{none-some, same_Some}
 use Rattle.std.proofs.lemmas.Str.{IsUtf8-from_is_utf8, is_utf8-from_IsUtf8}
-use Rattle.np_command_check.specs.Types.{StatementLine, StatementText}
-use Rattle.np_command_check.specs.FileLines.{AreLinesOf, IsFirstBad, IsTextOf, StandsInFile}
+use Rattle.np_command_check.specs.Prelude.{AreLinesOf, IsFirstBad, IsTextOf, StandsInFile, StatementLine, StatementText}
 use Rattle.np_statements.proofs.CountedLemmas.{counted_read, counted_refused, feeds-end, is_feed}
 use Rattle.np_statements.proofs.CutLemmas.{if_some}
 use Rattle.np_statements.proofs.GrammarLemmas.{read-is, read-text}
 use Rattle.np_statements.proofs.StepLemmas.{same_ok, then-ok}
-use Rattle.np_statements.specs.CountedLines.{IsLineOf, line_feeds}
-use Rattle.np_statements.specs.Lines.{at_line, line_read, lines_of, lines_read, statement_of, statements_of}
-use Rattle.np_statements.specs.ReadStatement.{statement_read}
-use Rattle.np_statements.specs.Steps.{◌>>=◌}
+use Rattle.np_statements.specs.Prelude.{IsLineOf, at_line, line_feeds, line_read, lines_of, lines_read, statement_of, statement_read, statements_of, ◌>>=◌}
 
 -- ---- texts of statements
 

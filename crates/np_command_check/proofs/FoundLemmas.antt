@@ -1,16 +1,10 @@
 -- What is said of the statements of a file, by what is found of its lines. For `check_file`.
 use Rattle.std.proofs.Common.{◌≡◌, ℕ, List, Option, Result, Ok, Err, ap, ◌∙◌}
 use Rattle.np_command.proofs.SinkLemmas.{TookLess-kept}
-use Rattle.np_command.specs.Prints.{text_in, Wrote}
-use Rattle.np_command_check.specs.Failures.{end_failure}
-use Rattle.np_command.specs.Sinks.{IsKept, SinkTrace}
-use Rattle.np_command_check.specs.Report.{asked_in, asked_of, check_reply, finding_of, line_fault, name_fault}
-use Rattle.np_command_check.specs.Types.{AskedLine, Broken, EndFault, EstateLists, StatementLine, UnknownEnd}
+use Rattle.np_command.specs.Prelude.{IsKept, SinkTrace, Wrote, text_in}
+use Rattle.np_command_check.specs.Prelude.{AskedLine, Broken, EndFault, EstateLists, StatementLine, UnknownEnd, asked_in, asked_of, check_reply, end_failure, finding_of, line_fault, name_fault}
 use Rattle.np_statements.proofs.AmongLemmas.{among-unknown}
-use Rattle.np_statements.specs.Answers.{GivesEnds}
-use Rattle.np_statements.specs.BrokenLines.{broken_among}
-use Rattle.np_statements.specs.FoundEnds.{ends_found}
-use Rattle.np_statements.specs.Lines.{statements_of}
+use Rattle.np_statements.specs.Prelude.{GivesEnds, broken_among, ends_found, statements_of}
 use Rattle.np_statements.specs.declared.end_fault.EndFault.TheVariants as end
 
 -- what is asked, where all lines are statements

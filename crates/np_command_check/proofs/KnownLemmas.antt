@@ -1,20 +1,17 @@
 -- Which ends of statements are found. For BrokenLemmas and PromiseLemmas.
 use Rattle.std.proofs.Common.{◌≡◌, ℕ, ◌<◌, List, [], ◌∷◌, Option, Some, None, Result, Ok, Err, All, Contains, length, refl, sym, ap, subst, ◌∙◌, arith}
 use Rattle.std.proofs.lemmas.List.Elements.{All-cons, All-nil}
-use Rattle.np_command_check.specs.Types.{Addresses, AskedLine, Block, EndForm, Ends, EstateLists, Namespace, Pods, StatementLine}
+use Rattle.np_command_check.specs.Prelude.{Addresses, AskedLine, Block, EndForm, Ends, EstateLists, IsFirstUnknown, IsKnown, Namespace, Pods, StatementLine, forms_of}
 use Rattle.np_statements.specs.declared.statement_text.EndForm.TheVariants.{Work}
-use Rattle.np_command_check.specs.KnownEnds.{IsFirstUnknown, IsKnown, forms_of}
-use Rattle.np_fold.specs.Workloads.{folding_of, number_named, number_of}
-use Rattle.np_model.specs.Lawful.{IsLawful}
+use Rattle.np_fold.specs.Prelude.{folding_of, number_named, number_of}
+use Rattle.np_model.specs.Prelude.{IsLawful}
 use Rattle.np_statements.proofs.EndLemmas.{named-within}
 use Rattle.np_statements.proofs.FormLemmas.{names-pods, number-within, unknown-named}
 use Rattle.np_statements.proofs.FoundLemmas.{asked-by, found-by}
 use Rattle.np_statements.proofs.StepLemmas.{same_ok}
-use Rattle.np_statements.specs.Ends.{ends_of, named_alone, works_alone}
-use Rattle.np_statements.specs.FoundEnds.{asked_of, ends_found}
-use Rattle.np_statements.specs.Steps.{◌>>=◌}
+use Rattle.np_statements.specs.Prelude.{asked_of, ends_found, ends_of, named_alone, works_alone, ◌>>=◌}
 use Rattle.np_kinds.proofs.MemberLemmas.{member-number, members-some, members-within, source-member}
-use Rattle.np_kinds.specs.Between.{IsWorkload, source_pod}
+use Rattle.np_kinds.specs.Prelude.{IsWorkload, source_pod}
 
 -- ---- pods of workloads
 

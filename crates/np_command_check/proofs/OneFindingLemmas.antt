@@ -1,16 +1,12 @@
 -- What is found of a file is one thing. For `one_finding_says_what_holds`.
 use Rattle.std.proofs.Common.{◌≡◌, ℕ, List, [], ◌∷◌, ◌++◌, All, refl, sym, ap, subst, ◌∙◌, arith}
 use Rattle.std.proofs.lemmas.List.Elements.{All-contains, All-head, All-tail, Contains-append_right}
-use Rattle.np_check.specs.Counterexamples.{allows_between}
-use Rattle.np_command_check.specs.Types.{Broken, Counterexample, EstateLists, StatementLine}
-use Rattle.np_command.specs.Sinks.{SinkTrace}
+use Rattle.np_check.specs.Prelude.{allows_between}
+use Rattle.np_command_check.specs.Prelude.{BreaksFirst, Broken, ChecksAll, Counterexample, EstateLists, FindsBroken, IsAskedOf, IsFirstBrokenLine, StatementLine, statement_bytes}
+use Rattle.np_command.specs.Prelude.{SinkTrace}
 use Rattle.np_command_check.proofs.OneListLemmas.{one-list}
 use Rattle.np_command_check.proofs.OnePacketLemmas.{one-packet}
-use Rattle.np_command_check.specs.FirstBroken.{BreaksFirst, IsFirstBrokenLine}
-use Rattle.np_command_check.specs.Promise.{ChecksAll, FindsBroken, IsAskedOf}
-use Rattle.np_command_check.specs.Report.{statement_bytes}
-use Rattle.np_statements.specs.BrokenText.{broken_text}
-use Rattle.np_statements.specs.Holding.{LineHolds}
+use Rattle.np_statements.specs.Prelude.{LineHolds, broken_text}
 
 -- ---- the first statement that does not hold
 

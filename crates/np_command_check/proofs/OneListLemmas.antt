@@ -5,14 +5,11 @@ use Rattle.std.proofs.lemmas.List.Elements.{All-contains}
 use Rattle.std.proofs.lemmas.Option.{same_Some}
 use Rattle.np_addr.proofs.SameLists.{same_elements_same_lists}
 use Rattle.np_statements.proofs.OneStatement.{one_statement}
-use Rattle.np_statements.specs.StatementGrammar.{IsStatementText, wanted_text}
+use Rattle.np_statements.specs.Prelude.{IsLineOf, IsStatementText, lines_of, wanted_text}
 use Rattle.np_check.specs.declared.question.Wanted.{Wanted}
 use Rattle.np_check.specs.declared.question.Wanted.TheVariants.{Allow, Deny}
 use Rattle.np_command_check.proofs.FileLemmas.{part-of, IsAbove}
-use Rattle.np_command_check.specs.FileLines.{AreLinesOf, StandsInFile}
-use Rattle.np_statements.specs.CountedLines.{IsLineOf}
-use Rattle.np_statements.specs.Lines.{lines_of}
-use Rattle.np_command_check.specs.Types.{StatementLine}
+use Rattle.np_command_check.specs.Prelude.{AreLinesOf, StandsInFile, StatementLine}
 
 -- ---- the order of statements
 

@@ -5,9 +5,8 @@ use Rattle.np_addr.specs.declared.address.Address.{Address}
 use Rattle.np_addr.specs.declared.address.Address.TheVariants as address
 use Rattle.np_addr.specs.declared.address.Family.{Family}
 use Rattle.np_addr.specs.declared.address.Family.TheVariants.{Four, Six}
-use Rattle.np_check.specs.Order.{address_before, comes_before, family_before, proto_before}
-use Rattle.np_command_check.specs.Types.{At, Counterexample, EstateLists, PlaceEnd, StatementText, Work}
-use Rattle.np_command_check.specs.FirstBroken.{BreaksFirst}
+use Rattle.np_check.specs.Prelude.{address_before, comes_before, family_before, proto_before}
+use Rattle.np_command_check.specs.Prelude.{At, BreaksFirst, Counterexample, EstateLists, PlaceEnd, StatementText, Work}
 use Rattle.np_conns.specs.declared.proto.Proto.{Proto}
 use Rattle.np_conns.specs.declared.proto.Proto.TheVariants.{Tcp, Udp, Sctp}
 

@@ -2,24 +2,16 @@
 use Rattle.std.proofs.Common.{◌≡◌, ℕ, List, Option, None, Some, Result, Ok, Err, codes, decimal, ◌++◌, refl, subst, true, false}
 use Rattle.std.specs.Prelude.{All, drop}
 use Rattle.std.proofs.lemmas.Option.{none-some, same_Some}
-use Rattle.np_command.specs.Inputs.{lists_of}
-use Rattle.np_command.specs.Prints.{fault_in, text_in}
-use Rattle.np_command.specs.Sinks.{SinkTrace, TookWhole}
-use Rattle.np_command_check.specs.Types.{AskedLine, BadStatement, Broken, EstateLists, Fault, StatementLine, UnknownEnd}
+use Rattle.np_command.specs.Prelude.{SinkTrace, TookWhole, fault_in, lists_of, text_in}
+use Rattle.np_command_check.specs.Prelude.{AskedLine, BadStatement, Broken, ChecksAll, EstateLists, Fault, FindsBroken, IsAskedOf, IsFirstBrokenLine, RefusesCheck, StatementLine, UnknownEnd, all_hold, asked_in, asked_of, check_reply, finding_of, hold_in, line_fault, name_fault, statement_bytes}
 use Rattle.np_command_check.proofs.BrokenLemmas.{first-line}
 use Rattle.np_command_check.proofs.FileLemmas.{first-bad, lines-of}
 use Rattle.np_command_check.proofs.KnownLemmas.{first-unknown, forms-known}
-use Rattle.np_command_check.specs.FirstBroken.{IsFirstBrokenLine}
-use Rattle.np_command_check.specs.Promise.{ChecksAll, FindsBroken, IsAskedOf, RefusesCheck}
-use Rattle.np_command_check.specs.Report.{all_hold, asked_in, asked_of, check_reply, finding_of, hold_in, line_fault, name_fault, statement_bytes}
-use Rattle.np_model.specs.Lawful.{IsLawful}
+use Rattle.np_model.specs.Prelude.{IsLawful}
 use Rattle.np_statements.proofs.BrokenLemmas.{first-is, nothing-broken}
 use Rattle.np_statements.proofs.FoundLemmas.{length-found}
 use Rattle.np_statements.proofs.LineLemmas.{statements-well}
-use Rattle.np_statements.specs.AskedLines.{IsWellLine}
-use Rattle.np_statements.specs.BrokenLines.{first_broken}
-use Rattle.np_statements.specs.FoundEnds.{ends_found}
-use Rattle.np_statements.specs.Lines.{statements_of}
+use Rattle.np_statements.specs.Prelude.{IsWellLine, ends_found, first_broken, statements_of}
 
 -- ---- what is asked
 

@@ -1,9 +1,8 @@
 -- What a statement file says, line by line.
 use Rattle.std.specs.Prelude.{ℕ, ◌≡◌, ◌≢◌, ◌<◌, List, [], All, AllPairs, Contains}
 use Rattle.std.specs.Str.{IsUtf8}
-use Rattle.np_statements.specs.StatementGrammar.{IsStatementText}
+use Rattle.np_statements.specs.Prelude.{IsLineOf, IsStatementText}
 use Rattle.np_command_check.specs.Types.{StatementLine, StatementText}
-use Rattle.np_statements.specs.CountedLines.{IsLineOf}
 
 -- the text, in UTF-8, is that of the statement
 abbrev pub IsTextOf : List ℕ → StatementText → Type 0

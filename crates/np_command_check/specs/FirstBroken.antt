@@ -1,10 +1,9 @@
 -- The first statement that does not hold, and the first packet that breaks it.
 use Rattle.std.specs.Prelude.{ℕ, ◌≡◌, ◌≤◌, List, ◌∷◌, ◌++◌, false, All, Contains}
-use Rattle.np_check.specs.Counterexamples.{allows_between, complies, families_between}
-use Rattle.np_check.specs.Order.{comes_before, family_before, proto_before}
+use Rattle.np_check.specs.Prelude.{allows_between, comes_before, complies, families_between, family_before, proto_before}
 use Rattle.np_command_check.specs.Types.{At, Broken, Counterexample, EndForm, EstateLists, PlaceEnd, StatementLine, StatementText, Work}
-use Rattle.np_fold.specs.Workloads.{number_of}
-use Rattle.np_statements.specs.Holding.{IsAtPort, IsNamedAddress, IsNamedPod, LineHolds}
+use Rattle.np_fold.specs.Prelude.{number_of}
+use Rattle.np_statements.specs.Prelude.{IsAtPort, IsNamedAddress, IsNamedPod, LineHolds}
 
 -- the form names an end of a packet: some pod of the workload, or the address
 abbrev pub NamesPlace : EstateLists → EndForm → PlaceEnd → Type 0

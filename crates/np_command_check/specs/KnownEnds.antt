@@ -2,7 +2,7 @@
 use Rattle.std.specs.Prelude.{ℕ, ◌≡◌, List, [], ◌∷◌, ◌++◌, All, flat_map}
 use Rattle.np_command_check.specs.Types.{EndForm, EstateLists, StatementLine}
 use Rattle.np_statements.specs.declared.statement_text.EndForm.TheVariants.{Work}
-use Rattle.np_statements.specs.Holding.{IsNamedPod}
+use Rattle.np_statements.specs.Prelude.{IsNamedPod}
 
 -- some pod is of the workload that a form names; any other form names what is there
 abbrev pub IsKnown : EstateLists → EndForm → Type 0

@@ -1,14 +1,12 @@
 -- What a report of `check` says of the bytes of its statement file and of its inputs, and why there is none.
 use Rattle.std.specs.Prelude.{◌≡◌, ℕ, List, ◌++◌, All, codes, decimal, drop, length, Ok}
-use Rattle.np_command.specs.Inputs.{lists_of}
-use Rattle.np_command.specs.Sinks.{SinkTrace, TookWhole}
+use Rattle.np_command.specs.Prelude.{SinkTrace, TookWhole, lists_of}
 use Rattle.np_command_check.specs.Types.{BadStatement, Broken, EstateLists, Fault, StatementLine, UnknownEnd}
 use Rattle.np_command_check.specs.FileLines.{AreLinesOf, IsFirstBad}
 use Rattle.np_command_check.specs.FirstBroken.{IsFirstBrokenLine}
 use Rattle.np_command_check.specs.KnownEnds.{IsFirstUnknown, IsKnown, forms_of}
 use Rattle.np_command_check.specs.Report.{statement_bytes}
-use Rattle.np_statements.specs.BrokenText.{broken_text}
-use Rattle.np_statements.specs.Holding.{LineHolds}
+use Rattle.np_statements.specs.Prelude.{LineHolds, broken_text}
 
 -- The bytes behind those of the statement file are those of an estate, the file has these statements, and all
 -- workloads that they name are there.

@@ -1,10 +1,7 @@
 -- `check`: whether the statements of a file hold.
 use Rattle.std.specs.Prelude.{ℕ, List, ◌++◌, Bool, false, codes, decimal, is_none, length, Option, Some, None, Result, Ok, Err, [], ◌∷◌}
 use Rattle.np_command_check.specs.Types.{AskedLine, BadStatement, Broken, EstateLists, Fault, StatementLine, UnknownEnd}
-use Rattle.np_statements.specs.BrokenLines.{first_broken}
-use Rattle.np_statements.specs.BrokenText.{broken_text}
-use Rattle.np_statements.specs.FoundEnds.{ends_found}
-use Rattle.np_statements.specs.Lines.{statements_of}
+use Rattle.np_statements.specs.Prelude.{broken_text, ends_found, first_broken, statements_of}
 
 -- ---- what is asked
 

@@ -1,8 +1,8 @@
 //! What follows from the promise. Each law is the contract of a call that does nothing.
 ghost use Rattle.std.specs.Prelude.{◌≡◌, ℕ, List};
-ghost use Rattle.np_command.specs.Sinks.{SinkTrace};
-ghost use Rattle.np_command_check.specs.Promise.{ChecksAll, FindsBroken};
-ghost use Rattle.np_statements.specs.BrokenText.{broken_text};
+ghost use Rattle.np_command.specs.Prelude.{SinkTrace};
+ghost use Rattle.np_command_check.specs.Prelude.{ChecksAll, FindsBroken};
+ghost use Rattle.np_statements.specs.Prelude.{broken_text};
 
 /// The promise leaves no choice: whatever two sinks were told of the same file and inputs, both were told that the same statements
 /// hold, or both the same line with the same packet, in one text; and not the one that all hold, and the other that one does not.

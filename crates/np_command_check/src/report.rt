@@ -1,10 +1,9 @@
 //! `check`: whether the statements of a file hold.
 ghost use Rattle.std.specs.Prelude.{◌≡◌, IfOk, IfSome, string_bytes};
-ghost use Rattle.np_command.specs.Prints.{Wrote, without_value};
-ghost use Rattle.np_command.specs.Sinks.{sunk};
+ghost use Rattle.np_command.specs.Prelude.{Wrote, sunk, without_value};
 ghost use Rattle.np_command_check.specs.Failures as failures;
 ghost use Rattle.np_command_check.specs.Report as spec;
-ghost use Rattle.np_statements.specs.BrokenLines.{HasPlaces};
+ghost use Rattle.np_statements.specs.Prelude.{HasPlaces};
 
 use np_base::NoMemory;
 use np_command::{Failure, Fault};

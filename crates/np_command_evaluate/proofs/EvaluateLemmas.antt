@@ -4,9 +4,7 @@ use Rattle.std.specs.Str.{bytes_eq}
 use Rattle.np_base.proofs.Bools.{and-leftwards}
 use Rattle.np_command_evaluate.specs.Types.{End, EndWord, EstateLists, Fault, PortSpot}
 use Rattle.np_command.proofs.WroteLemmas.{Wrote-refused}
-use Rattle.np_command.specs.Inputs.{Refuses}
-use Rattle.np_command.specs.Prints.{Wrote}
-use Rattle.np_command.specs.Sinks.{IsKept, SinkTrace}
+use Rattle.np_command.specs.Prelude.{IsKept, Refuses, SinkTrace, Wrote}
 use Rattle.np_command.specs.declared.failure.Failure.{Failure}
 use Rattle.np_command_evaluate.specs.Report.{between, evaluate_reply, known_end}
 

@@ -11,15 +11,12 @@ use Rattle.std.specs.Str.{bytes_eq}
 use Rattle.np_command_evaluate.specs.Types.{End, EndWord, EstateLists, Fault, Pod, PortSpot, SameEnd, UnknownEnd}
 use Rattle.np_args.specs.declared.end_word.EndWord.TheVariants as word
 use Rattle.np_classes.proofs.Lists.{no_position}
-use Rattle.np_command.specs.Ends.{end_text, or_unknown}
-use Rattle.np_command.specs.Inputs.{lists_of}
-use Rattle.np_command.specs.Prints.{fault_in, text_in}
-use Rattle.np_command.specs.Sinks.{SinkTrace, TookWhole}
+use Rattle.np_command.specs.Prelude.{SinkTrace, TookWhole, end_text, fault_in, lists_of, or_unknown, text_in}
 use Rattle.np_command.proofs.EndLemmas.{no_fault_at}
 use Rattle.np_command_evaluate.specs.Promise.{EvaluatesAll, NamesListed, NamesNoneListed, RefusesEvaluate, no_destination, no_source, one_pod}
 use Rattle.np_command_evaluate.specs.Report.{between, end_named, evaluate_reply, is_listed_as, known_end, lines_or, pod_word, verdict_lines}
-use Rattle.np_explain.specs.Sides.{are_one_pod}
-use Rattle.np_model.specs.Lawful.{IsLawful}
+use Rattle.np_explain.specs.Prelude.{are_one_pod}
+use Rattle.np_model.specs.Prelude.{IsLawful}
 use Rattle.np_rules.specs.declared.packet.End.TheVariants as end
 
 -- ---- listed ends

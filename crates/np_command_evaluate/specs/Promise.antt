@@ -2,11 +2,9 @@
 use Rattle.std.specs.Prelude.{◌≡◌, ℕ, List, true, false, Some, Ok, slice_get}
 use Rattle.np_command_evaluate.specs.Types.{End, EndWord, EstateLists, Fault, Pod, PortSpot, SameEnd, UnknownEnd}
 use Rattle.np_args.specs.declared.end_word.EndWord.TheVariants as word
-use Rattle.np_command.specs.Ends.{end_text}
-use Rattle.np_command.specs.Inputs.{lists_of}
-use Rattle.np_command.specs.Sinks.{SinkTrace, TookWhole}
+use Rattle.np_command.specs.Prelude.{SinkTrace, TookWhole, end_text, lists_of}
 use Rattle.np_command_evaluate.specs.Report.{pod_word, verdict_lines}
-use Rattle.np_explain.specs.Sides.{are_one_pod}
+use Rattle.np_explain.specs.Prelude.{are_one_pod}
 use Rattle.np_rules.specs.declared.packet.End.TheVariants as end
 
 -- a word names a listed end: the listed pod of its name, or its address

@@ -5,14 +5,13 @@ use Rattle.std.specs.Option.{option_map}
 use Rattle.std.specs.Str.{bytes_eq}
 use Rattle.np_addr.specs.declared.address.Family.{Family}
 use Rattle.np_addr.specs.declared.address.Family.TheVariants.{Four, Six}
-use Rattle.np_command.specs.Ends.{end_text, family_asked, or_unknown}
+use Rattle.np_command.specs.Prelude.{end_text, family_asked, or_unknown}
 use Rattle.np_command_evaluate.specs.Types.{End, EndWord, EstateLists, Fault, Pod, PortSpot, SameEnd}
-use Rattle.np_report.specs.RowText.{family_suffix}
-use Rattle.np_rules.specs.model.Verdict.{allows, packet_of}
+use Rattle.np_report.specs.Prelude.{family_suffix}
+use Rattle.np_rules.specs.Prelude.{allows, packet_of, said_text}
 use Rattle.np_rules.specs.declared.packet.End.TheVariants as end
 use Rattle.np_args.specs.declared.end_word.EndWord.TheVariants as word
-use Rattle.np_rules.specs.Texts.{said_text}
-use Rattle.np_explain.specs.Sides.{are_one_pod}
+use Rattle.np_explain.specs.Prelude.{are_one_pod}
 
 -- ---- ends
 

@@ -2,12 +2,10 @@
 ghost use Rattle.std.specs.Prelude.{◌≡◌, ◌≤◌, ◌<◌, ◌^◌, ◌++◌, IfOk, IfSome, codes, length, string_bytes};
 ghost use Rattle.std.specs.List.{position};
 ghost use Rattle.std.specs.Str.{bytes_eq};
-ghost use Rattle.np_command.specs.Inputs.{Gives};
-ghost use Rattle.np_command.specs.Prints.{Wrote};
-ghost use Rattle.np_command.specs.Sinks.{sunk};
-ghost use Rattle.np_explain.specs.Sides.{are_one_pod};
+ghost use Rattle.np_command.specs.Prelude.{Gives, Wrote, sunk};
+ghost use Rattle.np_explain.specs.Prelude.{are_one_pod};
 ghost use Rattle.np_command_evaluate.specs.Report as spec;
-ghost use Rattle.np_rules.specs.model.Verdict.{IsEndOf};
+ghost use Rattle.np_rules.specs.Prelude.{IsEndOf};
 
 use np_addr::Family;
 use np_args::EndWord;

@@ -6,26 +6,22 @@ use Rattle.std.proofs.lemmas.Cmp.{nat_cmp_total}
 use Rattle.std.specs.Cmp.{tied_itself}
 use Rattle.std.specs.Ordering.{nat_cmp}
 use Rattle.np_base.proofs.Lists.{Contains-one}
-use Rattle.np_command_explain.specs.Types.{Address, AskedEnd, At, End, ExplainedEnds, EndWord, EstateLists, Explanation, Family, Fault, Four, SameEnd, Six, Work}
+use Rattle.np_command_explain.specs.Prelude.{Address, AreEnds, AreNamed, AskedEnd, At, End, EndWord, EstateLists, ExplainedEnds, Explains, Explanation, Family, Fault, Four, HasPods, HaveBothFamilies, IsAsked, IsFamilyBetween, IsRightIn, SameEnd, Six, Work, are_one, asked_end, destination_end, ends_between, explanations, in_families, of_both, one_for_all, one_for_each, source_end}
 use Rattle.np_command.proofs.EndLemmas.{named_workload}
 use Rattle.np_command_explain.proofs.NamedLemmas.{AsksFor, IsOf, named-of}
-use Rattle.np_command_explain.specs.Promise.{AreNamed, Explains, HaveBothFamilies, IsFamilyBetween, IsRightIn, one_for_all, one_for_each}
-use Rattle.np_command.specs.Ends.{family_asked, only_family, or_unknown}
-use Rattle.np_command_explain.specs.Report.{are_one, asked_end, destination_end, ends_between, explanations, in_families, of_both, source_end}
-use Rattle.np_command_explain.specs.steps.Explaining.{AreEnds, HasPods, IsAsked}
-use Rattle.np_model.specs.Families.{families_of, has_family, or_four}
-use Rattle.np_model.specs.Lawful.{IsLawful}
+use Rattle.np_command.specs.Prelude.{family_asked, only_family, or_unknown}
+use Rattle.np_model.specs.Prelude.{IsLawful, families_of, has_family, or_four}
 use Rattle.np_model.specs.declared.pod.Pod.{Pod}
 use Rattle.np_explain.proofs.ExplanationLemmas.{explanation-right, right-alike, same_sides-Decides, same_sides-right}
-use Rattle.np_explain.specs.Explanations.{IsRightFor, explanation_of, same_sides}
+use Rattle.np_explain.specs.Prelude.{IsRightFor, explanation_of, same_sides}
 use Rattle.np_fold.proofs.WorkloadLemmas.{pods-ascend}
-use Rattle.np_fold.specs.Workloads.{Folding, folding_of, members_of, number_named, number_of}
+use Rattle.np_fold.specs.Prelude.{Folding, folding_of, members_of, number_named, number_of}
 use Rattle.np_routes.proofs.KindRoutes.{one_workload-alike}
-use Rattle.np_rules.specs.model.Verdict.{IsEndOf, end_of}
+use Rattle.np_rules.specs.Prelude.{IsEndOf, end_of}
 use Rattle.np_rules.specs.declared.packet.End.TheVariants as end
 use Rattle.np_kinds.proofs.KindVerdicts.{SameKindEnd, SameKindEnd-ends, got-same, sent-same}
 use Rattle.np_kinds.proofs.MemberLemmas.{destination-member, member-number, members-some, members-within, source-member}
-use Rattle.np_kinds.specs.Between.{IsWorkload, destination_pod, is_alone, source_pod}
+use Rattle.np_kinds.specs.Prelude.{IsWorkload, destination_pod, is_alone, source_pod}
 use Rattle.np_args.specs.declared.end_word.EndWord.TheVariants as word
 
 -- ---- ends

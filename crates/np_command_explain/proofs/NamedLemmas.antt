@@ -13,21 +13,19 @@ use Rattle.std.specs.Option.{option_map_or}
 use Rattle.std.specs.Ordering.{nat_cmp}
 use Rattle.std.specs.Str.{bytes_eq}
 use Rattle.np_base.proofs.Orders.{not-before}
-use Rattle.np_command_explain.specs.Types.{Address, AskedEnd, At, End, EndWord, EstateLists, Fault, UnknownEnd, Work}
+use Rattle.np_command_explain.specs.Prelude.{Address, AskedEnd, At, End, EndWord, EstateLists, Fault, IsPodOf, NamesEnd, NamesNone, UnknownEnd, Work, are_one, asked_end, destination_end, source_end}
 use Rattle.np_args.specs.declared.end_word.EndWord.TheVariants as word
 use Rattle.np_classes.proofs.Lists.{no_position}
 use Rattle.np_classes.proofs.Relations.{firsts-le-count}
 use Rattle.np_command.proofs.EndLemmas.{named_workload, found-named}
-use Rattle.np_command.specs.Ends.{end_text, or_unknown}
-use Rattle.np_command_explain.specs.Promise.{IsPodOf, NamesEnd, NamesNone}
-use Rattle.np_command_explain.specs.Report.{are_one, asked_end, destination_end, source_end}
-use Rattle.np_explain.specs.Sides.{are_one_pod}
+use Rattle.np_command.specs.Prelude.{end_text, or_unknown}
+use Rattle.np_explain.specs.Prelude.{are_one_pod}
 use Rattle.np_fold.proofs.WorkloadLemmas.{workloads-by_name}
-use Rattle.np_fold.specs.Workloads.{Workload, folding_of, members_of, number_named, number_of, pods_alike, workloads_of}
-use Rattle.np_model.specs.Lawful.{IsLawful}
+use Rattle.np_fold.specs.Prelude.{Workload, folding_of, members_of, number_named, number_of, pods_alike, workloads_of}
+use Rattle.np_model.specs.Prelude.{IsLawful}
 use Rattle.np_rules.specs.declared.packet.End.TheVariants as end
 use Rattle.np_kinds.proofs.MemberLemmas.{destination-member, member-number, members-some, members-within, not-alone, source-member}
-use Rattle.np_kinds.specs.Between.{destination_pod, source_pod}
+use Rattle.np_kinds.specs.Prelude.{destination_pod, source_pod}
 
 -- an end is one of those that are asked about: a pod of the workload, or the address
 abbrev pub IsOf : EstateLists → AskedEnd → End → Type 0

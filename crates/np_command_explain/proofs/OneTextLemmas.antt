@@ -1,18 +1,13 @@
 -- Explanations of the same ends have one text. For `one_text_says_what_decides`.
 use Rattle.std.proofs.Common.{◌≡◌, ℕ, List, [], ◌∷◌, Contains, Option, Some, None, filter, refl, sym, subst, ◌∙◌, arith}
-use Rattle.np_addr.specs.Addresses.{family_of}
-use Rattle.np_command_explain.specs.Types.{Egress, End, EndWord, EstateLists, Explanation, Family, Four, Ingress, Shown, Six}
-use Rattle.np_command.specs.Ends.{end_text}
-use Rattle.np_command.specs.Sinks.{SinkTrace}
-use Rattle.np_command_explain.specs.Promise.{AreNamed, Explains, ExplainsAll, HaveSameParts, IsFamilyBetween, one_for_all, one_for_each}
-use Rattle.np_command_explain.specs.Report.{explain_text, shown, shown_text}
+use Rattle.np_addr.specs.Prelude.{family_of}
+use Rattle.np_command_explain.specs.Prelude.{AreNamed, Egress, End, EndWord, EstateLists, Explains, ExplainsAll, Explanation, Family, Four, HaveSameParts, Ingress, IsFamilyBetween, Shown, Six, explain_text, one_for_all, one_for_each, shown, shown_text}
+use Rattle.np_command.specs.Prelude.{SinkTrace, end_text}
 use Rattle.np_conns.proofs.ConnLemmas.{conns_text-agrees}
-use Rattle.np_conns.specs.Conns.{has_spot}
-use Rattle.np_conns.specs.ConnsText.{conns_text}
+use Rattle.np_conns.specs.Prelude.{conns_text, has_spot}
 use Rattle.np_explain.proofs.OneListLemmas.{one_is_right}
-use Rattle.np_explain.specs.Explanations.{IsRightFor}
-use Rattle.np_explain.specs.Sides.{decider_between}
-use Rattle.np_model.specs.Families.{has_family, or_four}
+use Rattle.np_explain.specs.Prelude.{IsRightFor, decider_between}
+use Rattle.np_model.specs.Prelude.{has_family, or_four}
 use Rattle.np_rules.specs.declared.packet.End.TheVariants as end
 
 -- ---- in one family

@@ -1,17 +1,12 @@
 -- What a report of `explain` says, from what was written of it, and why there is none. For crates above.
 use Rattle.std.proofs.Common.{◌≡◌, ℕ, List, Bool, true, false, None, Result, Ok, Err, Some, refl, if◌then◌else◌}
-use Rattle.np_command_explain.specs.Types.{AskedEnd, ExplainedEnds, EndWord, EstateLists, Fault, SameEnd}
-use Rattle.np_command.specs.Ends.{end_text}
-use Rattle.np_command.specs.Inputs.{lists_of}
-use Rattle.np_command.specs.Prints.{fault_in, text_in}
-use Rattle.np_command.specs.Sinks.{SinkTrace, TookWhole}
+use Rattle.np_command_explain.specs.Prelude.{AskedEnd, EndWord, EstateLists, ExplainedEnds, ExplainsAll, Fault, NamesSome, RefusesExplain, SameEnd, are_one, asked_end, destination_end, ends_between, ends_named, explain_ends, explain_reply, explain_text, explanations, known_ends, no_destination, no_source, one_pod, source_end}
+use Rattle.np_command.specs.Prelude.{SinkTrace, TookWhole, end_text, fault_in, lists_of, text_in}
 use Rattle.np_command.proofs.EndLemmas.{no_fault_at}
 use Rattle.np_command_explain.proofs.ExplainLemmas.{asked-there, ends-between, ends-there, explained}
 use Rattle.np_command_explain.proofs.NamedLemmas.{AsksFor, all-one, asked-is, far-named, near-named, none-asked}
-use Rattle.np_command_explain.specs.Promise.{ExplainsAll, NamesSome, RefusesExplain, no_destination, no_source, one_pod}
-use Rattle.np_command_explain.specs.Report.{are_one, asked_end, destination_end, ends_between, ends_named, explain_ends, explain_reply, explain_text, explanations, known_ends, source_end}
-use Rattle.np_fold.specs.Workloads.{folding_of}
-use Rattle.np_model.specs.Lawful.{IsLawful}
+use Rattle.np_fold.specs.Prelude.{folding_of}
+use Rattle.np_model.specs.Prelude.{IsLawful}
 
 no_ends : (fault : Fault) (ends : ExplainedEnds) → Err fault ≡ Ok ends → ⊥
 no_ends fault ends is = cc

@@ -1,10 +1,8 @@
 -- The text of what decides between two ends, piece by piece. For `put_shown`, `put_side` and `write_shown`.
 use Rattle.std.proofs.Common.{◌≡◌, ℕ, List, [], ◌++◌, flat_map, Option, refl, subst, append_assoc}
-use Rattle.np_command_explain.specs.Types.{Direction, Egress, Family, Ingress, Part, Shown}
+use Rattle.np_command_explain.specs.Prelude.{Direction, Egress, Family, Ingress, Part, Shown, explain_text, head_line, part_line, row_line, shown_text, side_text}
 use Rattle.np_command.proofs.PuttingLemmas.{HasLeft-held}
 use Rattle.np_command.proofs.LeftLemmas.{HasLeft, HasLeft-all}
-use Rattle.np_command_explain.specs.Report.{explain_text, part_line, shown_text, side_text}
-use Rattle.np_command_explain.specs.steps.Explaining.{head_line, row_line}
 
 -- at first all of a text is left: that of a side is its first line, and then those of its parts
 side_text-is : (direction : Direction) (name : List ℕ) (mark : Option Family) (parts : List Part)

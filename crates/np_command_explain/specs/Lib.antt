@@ -1,4 +1,5 @@
+pub mod Prelude
 pub mod Promise
 pub mod Report
-pub mod Types
 pub mod steps
+pub mod Types

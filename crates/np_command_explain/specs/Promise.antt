@@ -1,16 +1,13 @@
 -- What a report of `explain` says of the bytes of its inputs, and why there is none.
 use Rattle.std.specs.Prelude.{◌≡◌, ℕ, List, [], ◌∷◌, Some, None, Contains, true, false, Ok}
-use Rattle.np_addr.specs.Addresses.{family_of}
+use Rattle.np_addr.specs.Prelude.{family_of}
 use Rattle.np_command_explain.specs.Types.{End, EndWord, EstateLists, Explanation, Family, Fault, Four, SameEnd, Shown, Six, UnknownEnd}
 use Rattle.np_args.specs.declared.end_word.EndWord.TheVariants as word
-use Rattle.np_command.specs.Ends.{end_text}
-use Rattle.np_command.specs.Inputs.{lists_of}
-use Rattle.np_command.specs.Sinks.{SinkTrace, TookWhole}
+use Rattle.np_command.specs.Prelude.{SinkTrace, TookWhole, end_text, lists_of}
 use Rattle.np_command_explain.specs.Report.{explain_text, shown}
-use Rattle.np_explain.specs.Explanations.{IsRightFor}
-use Rattle.np_explain.specs.Sides.{are_one_pod}
-use Rattle.np_fold.specs.Workloads.{Workload, workloads_of}
-use Rattle.np_model.specs.Families.{families_of}
+use Rattle.np_explain.specs.Prelude.{IsRightFor, are_one_pod}
+use Rattle.np_fold.specs.Prelude.{Workload, workloads_of}
+use Rattle.np_model.specs.Prelude.{families_of}
 use Rattle.np_rules.specs.declared.packet.End.TheVariants as end
 
 -- ---- the ends

@@ -1,16 +1,15 @@
 -- `explain`: what decides between two ends.
 use Rattle.std.specs.Prelude.{ℕ, List, [], ◌∷◌, ◌++◌, Bool, false, codes, flat_map, Option, Some, None, Result, Ok, Err, if◌then◌else◌}
 use Rattle.np_command_explain.specs.Types.{AskedEnd, At, Direction, Egress, End, ExplainedEnds, EndWord, EstateLists, Explanation, Family, Fault, Four, Ingress, Part, SameEnd, Shown, Six, Work}
-use Rattle.np_command.specs.Ends.{end_text, family_asked, or_unknown}
-use Rattle.np_conns.specs.Conns.{has_spot}
-use Rattle.np_conns.specs.ConnsText.{conns_text}
+use Rattle.np_command.specs.Prelude.{end_text, family_asked, or_unknown}
+use Rattle.np_conns.specs.Prelude.{conns_text, has_spot}
 pub use Rattle.np_explain.specs.PartLine.{part_line}
-use Rattle.np_explain.specs.Explanations.{explanation_of, same_sides}
-use Rattle.np_fold.specs.Workloads.{Folding, folding_of, number_named}
-use Rattle.np_model.specs.Words.{direction_text}
-use Rattle.np_report.specs.RowText.{family_suffix}
+use Rattle.np_explain.specs.Prelude.{explanation_of, same_sides}
+use Rattle.np_fold.specs.Prelude.{Folding, folding_of, number_named}
+use Rattle.np_model.specs.Prelude.{direction_text}
+use Rattle.np_report.specs.Prelude.{family_suffix}
 use Rattle.np_rules.specs.declared.packet.End.TheVariants as end
-use Rattle.np_kinds.specs.Between.{destination_pod, is_alone, source_pod}
+use Rattle.np_kinds.specs.Prelude.{destination_pod, is_alone, source_pod}
 use Rattle.np_args.specs.declared.end_word.EndWord.TheVariants as word
 
 -- ---- ends

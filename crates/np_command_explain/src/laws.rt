@@ -1,10 +1,8 @@
 //! What follows from the promise. Each law is the contract of a call that does nothing.
 ghost use Rattle.std.specs.Prelude.{◌≡◌, ℕ, List};
 ghost use Rattle.np_args.specs.declared.end_word.EndWord.{EndWord};
-ghost use Rattle.np_command.specs.Ends.{end_text};
-ghost use Rattle.np_command.specs.Sinks.{SinkTrace};
-ghost use Rattle.np_command_explain.specs.Promise.{ExplainsAll};
-ghost use Rattle.np_command_explain.specs.Report.{explain_text};
+ghost use Rattle.np_command.specs.Prelude.{SinkTrace, end_text};
+ghost use Rattle.np_command_explain.specs.Prelude.{ExplainsAll, explain_text};
 
 /// The promise leaves no choice: whatever two sinks were told of the same inputs and for the same words, the explanations have
 /// one text.

@@ -1,16 +1,11 @@
 //! `explain`: what decides between two ends.
 ghost use Rattle.std.specs.Prelude.{◌≡◌, ◌≤◌, IfOk, None, Some, if◌then◌else◌, string_bytes};
-ghost use Rattle.np_command.specs.Inputs.{Gives};
-ghost use Rattle.np_command.specs.Prints.{Wrote};
-ghost use Rattle.np_command.specs.Sinks.{sunk};
-ghost use Rattle.np_command.specs.Written.{Writes};
+ghost use Rattle.np_command.specs.Prelude.{Gives, Puts, Writes, Wrote, sunk};
 ghost use Rattle.np_command_explain.specs.Report as spec;
 ghost use Rattle.np_command_explain.specs.steps.Explaining.{AreEnds, HasPods, IsAsked, head_line, parts_at, row_line};
-ghost use Rattle.np_command.specs.steps.Putting.{Puts};
-ghost use Rattle.np_model.specs.Lawful.{IsLawful};
-ghost use Rattle.np_explain.specs.Explanations.{explanation_of};
-ghost use Rattle.np_explain.specs.Sides.{IsFamilyOf};
-ghost use Rattle.np_fold.specs.Workloads.{folding_of};
+ghost use Rattle.np_model.specs.Prelude.{IsLawful};
+ghost use Rattle.np_explain.specs.Prelude.{IsFamilyOf, explanation_of};
+ghost use Rattle.np_fold.specs.Prelude.{folding_of};
 
 use np_addr::{Address, Family};
 use np_args::EndWord;

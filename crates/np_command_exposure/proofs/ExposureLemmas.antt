@@ -11,8 +11,8 @@ use Rattle.np_command_exposure.specs.Report.{both_sides, first_fault, nothing_un
 use Rattle.np_command_exposure.specs.Types.{EstateLists, Fault, RowText, ShownSide}
 use Rattle.np_exposure.specs.declared.exposures.TheConstants.{MOST_PATTERNS}
 use Rattle.np_report.proofs.LineLemmas.{is_some_row, text_to_come-rows}
-use Rattle.np_report.specs.Forms.{Form, lines_of, text_to_come}
-use Rattle.np_kinds.specs.Between.{IsWorkload, number_of_workloads}
+use Rattle.np_report.specs.Prelude.{Form, lines_of, text_to_come}
+use Rattle.np_kinds.specs.Prelude.{IsWorkload, number_of_workloads}
 
 -- ---- what is shown
 

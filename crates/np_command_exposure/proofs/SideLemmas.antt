@@ -1,6 +1,5 @@
 -- Sides by the numbers of workloads, and the same by the workloads. For PromiseLemmas.
-use Rattle.std.proofs.Common.{◌≡◌, ◌≢◌, ◌<◌, ◌≤◌, ◌+◌, ◌-◌, ◌^◌, ℕ, zero, suc, List, [], ◌∷◌, ◌++◌, length, drop}
-use Rattle.std.proofs.Common.{get_or, flat_map, map, min, nat_lt, if◌then◌else◌, Bool, true, false, Contains, Option, None, Some, Result, Ok, Err, arith, refl, sym, ap, subst, ◌∙◌, slice_index}
+use Rattle.std.proofs.Common.{◌≡◌, ◌≢◌, ◌<◌, ◌≤◌, ◌+◌, ◌-◌, ◌^◌, ℕ, zero, suc, List, [], ◌∷◌, ◌++◌, length, drop, get_or, flat_map, map, min, nat_lt, if◌then◌else◌, Bool, true, false, Contains, Option, None, Some, Result, Ok, Err, arith, refl, sym, ap, subst, ◌∙◌, slice_index}
 use Rattle.std.proofs.Math.Seq.{drop-cons}
 use Rattle.std.proofs.lemmas.Bool.{true≢false}
 use Rattle.std.proofs.lemmas.Bool.Decides.{nat_tests}
@@ -12,7 +11,7 @@ use Rattle.std.specs.List.{AllByRecursion, range_with_len}
 use Rattle.std.specs.Option.{option_map_or}
 use Rattle.std.specs.Str.{bytes_eq}
 use Rattle.np_classes.proofs.Lists.{no_position}
-use Rattle.np_command.specs.Ends.{or_unknown}
+use Rattle.np_command.specs.Prelude.{or_unknown}
 use Rattle.np_command_exposure.specs.Types.{Direction, EstateLists, ExposureRow, Fault, RowText, ShownSide, Stranger, TooManyPatterns, UnknownEnd}
 use Rattle.np_command.proofs.EndLemmas.{no_workload, found-named}
 use Rattle.np_command_exposure.proofs.ExposureLemmas.{both-none, few-at}
@@ -21,17 +20,13 @@ use Rattle.np_command_exposure.specs.Report.{both_sides, first_fault, or_later, 
 use Rattle.np_exposure.proofs.LeftLemmas.{rows_of-are}
 use Rattle.np_exposure.proofs.RightLemmas.{each_row-first, first_row-tells}
 use Rattle.np_exposure.proofs.WorkloadLemmas.{workload-rows}
-use Rattle.np_exposure.specs.Mentions.{mentions}
-use Rattle.np_exposure.specs.Right.{FirstRowTells}
-use Rattle.np_exposure.specs.Rows.{rows_of}
-use Rattle.np_exposure.specs.Strangers.{is_hypothetical}
-use Rattle.np_exposure.specs.Weight.{weight}
+use Rattle.np_exposure.specs.Prelude.{FirstRowTells, is_hypothetical, mentions, rows_of, weight}
 use Rattle.np_exposure.specs.declared.exposures.TheConstants.{MOST_PATTERNS}
-use Rattle.np_fold.specs.Workloads.{Workload, folding_of, members_of, name_of, number_named, workloads_of}
-use Rattle.np_model.specs.Lawful.{IsLawful}
-use Rattle.np_rules.specs.PodSides.{PodSide, side_of}
+use Rattle.np_fold.specs.Prelude.{Workload, folding_of, members_of, name_of, number_named, workloads_of}
+use Rattle.np_model.specs.Prelude.{IsLawful}
+use Rattle.np_rules.specs.Prelude.{PodSide, side_of}
 use Rattle.np_kinds.proofs.MemberLemmas.{member-number, members-some, members-within, source-member}
-use Rattle.np_kinds.specs.Between.{IsWorkload, source_pod}
+use Rattle.np_kinds.specs.Prelude.{IsWorkload, source_pod}
 
 -- ---- the workload of a number
 

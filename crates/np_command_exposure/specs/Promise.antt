@@ -1,17 +1,13 @@
 -- What a report of `exposure` says of the bytes of its inputs, and why there is none.
 use Rattle.std.specs.Prelude.{◌≡◌, ◌≢◌, ◌<◌, ◌≤◌, ◌-◌, ◌^◌, ℕ, List, [], ◌∷◌, ◌++◌, Contains, flat_map, map, min, slice_index, true, None, Some, Option, Ok}
 use Rattle.np_command_exposure.specs.Types.{Direction, Egress, EstateLists, ExposureRow, Fault, Format, Ingress, RowText, Stranger, TooManyPatterns, UnknownEnd}
-use Rattle.np_command.specs.Inputs.{lists_of}
-use Rattle.np_command.specs.Sinks.{SinkTrace, TookWhole}
+use Rattle.np_command.specs.Prelude.{SinkTrace, TookWhole, lists_of}
 use Rattle.np_command_exposure.specs.Report.{row_text}
-use Rattle.np_exposure.specs.Mentions.{mentions}
-use Rattle.np_exposure.specs.Right.{FirstRowTells, IsEachFirst}
-use Rattle.np_exposure.specs.Strangers.{is_hypothetical}
-use Rattle.np_exposure.specs.Weight.{weight}
+use Rattle.np_exposure.specs.Prelude.{FirstRowTells, IsEachFirst, is_hypothetical, mentions, weight}
 use Rattle.np_exposure.specs.declared.exposures.TheConstants.{MOST_PATTERNS}
-use Rattle.np_fold.specs.Workloads.{Workload, workloads_of}
-use Rattle.np_report.specs.Forms.{report_text}
-use Rattle.np_rules.specs.PodSides.{side_of}
+use Rattle.np_fold.specs.Prelude.{Workload, workloads_of}
+use Rattle.np_report.specs.Prelude.{report_text}
+use Rattle.np_rules.specs.Prelude.{side_of}
 
 -- ---- what is shown
 

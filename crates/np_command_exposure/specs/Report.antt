@@ -1,19 +1,15 @@
 -- `exposure`: what pods that nobody has written yet could send to workloads, and be sent by them.
 use Rattle.std.specs.Prelude.{ℕ, ◌-◌, ◌^◌, List, [], ◌∷◌, flat_map, map, min, nat_lt, Option, Some, None, Result, Ok, Err, ⊤, if◌then◌else◌}
 use Rattle.std.specs.List.{range_with_len}
-use Rattle.np_command.specs.Ends.{or_unknown}
+use Rattle.np_command.specs.Prelude.{or_unknown}
 use Rattle.np_command_exposure.specs.Types.{Direction, Egress, EstateLists, ExposureRow, Fault, Format, Ingress, RowText, ShownSide, TooManyPatterns}
-use Rattle.np_conns.specs.Conns.{has_spot}
-use Rattle.np_conns.specs.ConnsText.{conns_text}
-use Rattle.np_exposure.specs.Mentions.{mentions}
-use Rattle.np_exposure.specs.PeerText.{peer_text}
-use Rattle.np_exposure.specs.Rows.{rows_of}
-use Rattle.np_exposure.specs.Weight.{weight}
+use Rattle.np_conns.specs.Prelude.{conns_text, has_spot}
+use Rattle.np_exposure.specs.Prelude.{mentions, peer_text, rows_of, weight}
 use Rattle.np_exposure.specs.declared.exposures.TheConstants.{MOST_PATTERNS}
-use Rattle.np_fold.specs.Workloads.{folding_of, name_of, number_named}
-use Rattle.np_report.specs.Forms.{report_text}
-use Rattle.np_rules.specs.PodSides.{PodSide, side_of}
-use Rattle.np_kinds.specs.Between.{number_of_workloads, source_pod}
+use Rattle.np_fold.specs.Prelude.{folding_of, name_of, number_named}
+use Rattle.np_report.specs.Prelude.{report_text}
+use Rattle.np_rules.specs.Prelude.{PodSide, side_of}
+use Rattle.np_kinds.specs.Prelude.{number_of_workloads, source_pod}
 
 -- ---- what is shown
 

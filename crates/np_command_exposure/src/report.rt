@@ -1,14 +1,11 @@
 //! `exposure`: what pods that nobody has written yet could send to workloads, and be sent by them.
 ghost use Rattle.std.specs.Prelude.{◌≡◌, ◌≤◌, ◌++◌, All, IfOk, OnOk, false, flat_map, map};
 ghost use Rattle.std.specs.List.{range_with_len};
-ghost use Rattle.np_command.specs.Inputs.{Gives};
-ghost use Rattle.np_command.specs.Prints.{Wrote};
-ghost use Rattle.np_command.specs.Sinks.{sunk};
-ghost use Rattle.np_command.specs.Written.{Writes};
+ghost use Rattle.np_command.specs.Prelude.{Gives, Writes, Wrote, sunk};
 ghost use Rattle.np_command_exposure.specs.Report as spec;
 ghost use Rattle.np_exposure.specs.declared.exposures.TheConstants.{MOST_PATTERNS as MOST};
-ghost use Rattle.np_report.specs.Forms.{text_to_come};
-ghost use Rattle.np_kinds.specs.Between.{IsWorkload};
+ghost use Rattle.np_report.specs.Prelude.{text_to_come};
+ghost use Rattle.np_kinds.specs.Prelude.{IsWorkload};
 
 use np_args::Format;
 use np_base::{NoMemory, Seq, Steps, Text};

@@ -4,23 +4,15 @@ use Rattle.std.specs.List.{filter_map, list_all, range_with_len, slice_get}
 use Rattle.std.specs.Option.{option_and_then, option_map_or}
 use Rattle.std.specs.Prelude.{AllPairs, IsPermutation}
 use Rattle.np_base.proofs.Lists.{count-none}
-use Rattle.np_owners.specs.Chains.{places, up}
+use Rattle.np_owners.specs.Prelude.{first_in_cycle, makes_pod, owner_place, places, up, ups}
 use Rattle.np_owners.proofs.Owned.{owns_itself-none}
-use Rattle.np_reading.specs.Ends.{pods_from, pods_of}
-use Rattle.np_reading.specs.LeftOut.{count_left_out, is_for, is_left_out, left_out}
-use Rattle.np_reading.specs.Listed.{admin_policies_of, admin_policy, base_policy, baseline_of, first_equal, first_of, ingresses_from, ingresses_of, net_policies_of, net_policy, ranks_of, service}
-use Rattle.np_reading.specs.Listed.{services_of, with_admin, with_rank}
-use Rattle.np_reading.specs.Reading.{estate_of, estate_of_items, notes_of}
+use Rattle.np_reading.specs.Prelude.{admin_policies_of, admin_policy, base_policy, baseline_of, count_left_out, estate_of, estate_of_items, first_equal, first_of, ingresses_from, ingresses_of, is_for, is_left_out, left_out, net_policies_of, net_policy, notes_of, pods_from, pods_of, ranks_of, service, services_of, with_admin, with_rank}
 use Rattle.np_model.specs.declared.notes.Notes.{Notes}
 use Rattle.np_reading.proofs.OnceLemmas.{net_policies-once}
 use Rattle.np_reading.proofs.EstateLemmas.{estate_of-read, same-notes}
-use Rattle.np_items.specs.Inputs.{json_of}
-use Rattle.np_command_flatten.specs.Types.{Item, NetPolicy}
-use Rattle.np_owners.specs.MadePods.{makes_pod}
-use Rattle.np_owners.specs.Owners.{first_in_cycle, owner_place, ups}
-use Rattle.np_command_flatten.specs.Estates.{AreApart, estate_with, net_item, net_items}
+use Rattle.np_items.specs.Prelude.{json_of}
+use Rattle.np_command_flatten.specs.Prelude.{AreApart, Item, NetPolicy, estate_with, is_printable, net_item, net_items}
 use Rattle.np_manifests.specs.Lists.{list_data}
-use Rattle.np_command_flatten.specs.Printable.{is_printable}
 use Rattle.np_command_flatten.proofs.ItemLemmas.{first_repeat-none, items_of-list}
 
 -- ---- what policies are not

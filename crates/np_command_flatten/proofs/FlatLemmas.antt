@@ -1,7 +1,6 @@
 -- Flat policies are as the API has them, and no two have one name. For `flat_policies_are_read_again`.
-use Rattle.std.proofs.Common.{◌≡◌, ◌≢◌, ℕ, zero, suc, ◌+◌, ◌^◌, ◌<◌, ◌≤◌, List, [], ◌∷◌, ◌++◌, Bool, true, false, not, ◌&&◌, ◌==◌, flat_map, length, map, Option, Some, None, Ok, codes, decimal}
+use Rattle.std.proofs.Common.{◌≡◌, ◌≢◌, ℕ, zero, suc, ◌+◌, ◌^◌, ◌<◌, ◌≤◌, List, [], ◌∷◌, ◌++◌, Bool, true, false, not, ◌&&◌, ◌==◌, flat_map, length, map, Option, Some, None, Ok, codes, decimal, option_map, refl, sym, ap, subst, ◌∙◌, arith, le-leb, ne_eqb}
 use Rattle.std.specs.Option.{option_map_or}
-use Rattle.std.proofs.Common.{option_map, refl, sym, ap, subst, ◌∙◌, arith, le-leb, ne_eqb}
 use Rattle.std.proofs.lemmas.Bool.{and_from, and_parts, cond_both, lt-leb}
 use Rattle.std.proofs.lemmas.Fmt.{decimal_injective, decimal_is_IsNumeral}
 use Rattle.std.proofs.lemmas.List.{length-map}
@@ -13,59 +12,44 @@ use Rattle.std.specs.List.{AllByRecursion, list_all, range_with_len, slice_get}
 use Rattle.std.specs.Prelude.{AllPairs}
 use Rattle.std.specs.Str.Parse.{AllDigits}
 use Rattle.std.specs.Str.{bytes_eq}
-use Rattle.np_addr.specs.Blocks.{IsAddressSet}
-use Rattle.np_addr.specs.Prefixes.{prefixes_of}
-use Rattle.np_command_flatten.specs.Types.{AddressRow, Block, Cidr, Direction, Egress, EstateLists, Ingress, NetPeer, NetRule, Proto, Range, Sctp, Tcp, Udp}
+use Rattle.np_addr.specs.Prelude.{IsAddressSet, prefixes_of}
+use Rattle.np_command_flatten.specs.Prelude.{AddressRow, AreApart, Block, Cidr, Direction, Egress, EstateLists, Ingress, NetPeer, NetRule, Proto, Range, Sctp, Tcp, Udp, estate_with, is_printable, is_printable_block, is_printable_peer, is_printable_port, is_printable_rule}
 use Rattle.np_base.proofs.Lists.{list_all-both}
 use Rattle.np_base.proofs.Bools.{not_both}
 use Rattle.np_base.proofs.Texts.{digit_range}
 use Rattle.np_classes.proofs.Lists.{All-places}
 use Rattle.np_classes.proofs.Relations.{firsts-le-count}
 use Rattle.np_classes.specs.Classes.{places}
-use Rattle.np_conns.specs.Conns.{Conns, IsRun}
-use Rattle.np_conns.specs.ConnsText.{is_whole}
+use Rattle.np_conns.specs.Prelude.{Conns, IsRun, is_whole}
 use Rattle.np_reading.proofs.LawfulLists.{AllLater, AllPairs-from_later, list_all-from_all}
-use Rattle.np_reading.specs.Reading.{estate_of}
-use Rattle.np_model.specs.Lawful.{IsLawful, is_well, is_well_pod}
+use Rattle.np_reading.specs.Prelude.{estate_of}
+use Rattle.np_model.specs.Prelude.{IsLawful, has_slash, is_name, is_well, is_well_label, is_well_labels, is_well_pod, is_well_ports, is_whole_word, is_word, is_word_byte, is_worded}
 use Rattle.np_model.specs.declared.pod.Pod.{Pod}
 use Rattle.np_fold.proofs.WorkloadLemmas.{workloads-count}
-use Rattle.np_fold.specs.Keys.{keys_of_estate}
-use Rattle.np_fold.specs.Workloads.{folding_of, pods_alike}
-use Rattle.np_items.specs.Inputs.{json_of}
-use Rattle.np_model.specs.Words.{has_slash, is_name, is_word, is_word_byte, is_whole_word}
+use Rattle.np_fold.specs.Prelude.{folding_of, keys_of_estate, pods_alike}
+use Rattle.np_items.specs.Prelude.{json_of}
 use Rattle.np_labels.proofs.Distinct.{list_all-distinct}
-use Rattle.np_labels.specs.Labels.{value_of}
+use Rattle.np_labels.specs.Prelude.{value_of}
 use Rattle.np_labels.specs.WellFormed as labels
 use Rattle.np_labels.specs.declared.pair.Pair.{Pair}
-use Rattle.np_model.specs.WellObjects.{is_well_label, is_well_labels, is_well_ports}
-use Rattle.np_model.specs.WellPolicies.{is_well_selector, is_worded}
-use Rattle.np_rules.specs.model.Verdict.{no_pod}
+use Rattle.np_model.specs.WellPolicies.{is_well_selector}
+use Rattle.np_rules.specs.Prelude.{no_pod, pod_end}
 use Rattle.np_flatten.proofs.AddressVerdicts.{IsWellSpan, rows-well}
 use Rattle.np_flatten.proofs.KindGroups.{in_count}
 use Rattle.np_flatten.proofs.ReceiverFacts.{group-first-in, groups-le}
-use Rattle.np_flatten.specs.Faults.{family_of_list, set_in, set_of}
-use Rattle.np_flatten.specs.Flat.{blocks_of_span, flat_name, flat_policies, flat_policy, group_namespace, group_peer, group_rows, group_selector, ingress_rules, ranges_of_span, receiver_in, rule_if}
-use Rattle.np_flatten.specs.Flat.{rules_from_group, rules_from_groups, rules_of_addresses, rules_of_set, set_from}
-use Rattle.np_flatten.specs.Groups.{first_of_group, group_count, group_firsts, relevant}
-use Rattle.np_flatten.specs.Ports.{ports_of, span_of, spans_of_all}
-use Rattle.np_flatten.specs.Selecting.{namespace_named, requirement_at, requirement_of_key}
+use Rattle.np_flatten.specs.Prelude.{blocks_of_span, family_of_list, first_of_group, flat_name, flat_policies, flat_policy, group_count, group_firsts, group_namespace, group_peer, group_rows, group_selector, ingress_rules, namespace_named, ports_of, ranges_of_span, receiver_in, relevant, requirement_at, requirement_of_key, rule_if, rules_from_group, rules_from_groups, rules_of_addresses, rules_of_set, set_from, set_in, set_of, span_of, spans_of_all}
 use Rattle.np_kinds.proofs.PairLemmas.{pod_there, source-within}
-use Rattle.np_kinds.specs.Kinds.{first_end}
-use Rattle.np_table.specs.Rows.{address_rows, is_nothing}
-use Rattle.np_table.specs.Table.{estate_table}
-use Rattle.np_kinds.specs.Between.{number_of_workloads, pair_allows, source_pod}
+use Rattle.np_kinds.specs.Prelude.{first_end, number_of_workloads, pair_allows, source_pod}
+use Rattle.np_table.specs.Prelude.{address_rows, estate_table, is_nothing}
 use Rattle.np_table.specs.declared.rows.AddressSpan.{AddressSpan}
 use Rattle.np_table.specs.declared.rows.AddressSpan.TheVariants as span
-use Rattle.np_command_flatten.specs.Estates.{AreApart, estate_with}
 use Rattle.np_manifests.specs.Lists.{list_data}
-use Rattle.np_command_flatten.specs.Printable.{is_printable, is_printable_block, is_printable_peer, is_printable_port, is_printable_rule}
 use Rattle.np_command_flatten.proofs.EstateLemmas.{estate_of-list}
 use Rattle.np_command_flatten.proofs.KeyLemmas.{estate-keys}
 use Rattle.np_command_flatten.proofs.LawfulReads.{estate-lawful}
 use Rattle.np_command_flatten.proofs.PrefixLemmas.{prefixes-printable}
 use Rattle.np_command_flatten.proofs.RunLemmas.{AreRuns, conns_of-runs, rows-runs}
 use Rattle.np_command_flatten.proofs.ShapeLemmas.{all-mapped}
-use Rattle.np_rules.specs.model.Ends.{pod_end}
 
 -- ---- the first pod of a workload
 

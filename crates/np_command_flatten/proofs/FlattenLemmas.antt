@@ -4,15 +4,11 @@ use Rattle.std.specs.List.{find, join_by, range_with_len}
 use Rattle.std.specs.Prelude.{◌⊎◌, All}
 use Rattle.std.proofs.lemmas.Bool.{ne_eqb}
 use Rattle.std.proofs.lemmas.List.Elements.{All-append, All-cons, All-head, All-nil, All-tail}
-use Rattle.np_command_flatten.specs.Report.{AreWorkloads, flatten_text, item_text}
-use Rattle.np_command_flatten.specs.Types.{Alike, EstateLists, FlatFault, NoMemory, Split}
+use Rattle.np_command_flatten.specs.Prelude.{Alike, AreWorkloads, EstateLists, FlatFault, NoMemory, Split, flatten_text, item_text}
 use Rattle.np_command_flatten.proofs.ListLemmas.{list_text-joined}
 use Rattle.np_manifests.specs.Lists.{policy_text}
-use Rattle.np_flatten.specs.Faults.{fault_by, flat_fault, is_split, is_unlike}
-use Rattle.np_flatten.specs.Flat.{flat_policies, flat_policy}
-use Rattle.np_flatten.specs.Groups.{group_count}
-use Rattle.np_flatten.specs.Pairs.{first_pair, pairs_below}
-use Rattle.np_kinds.specs.Between.{number_of_workloads}
+use Rattle.np_flatten.specs.Prelude.{fault_by, first_pair, flat_fault, flat_policies, flat_policy, group_count, is_split, is_unlike, pairs_below}
+use Rattle.np_kinds.specs.Prelude.{number_of_workloads}
 
 -- ---- one policy after another
 

@@ -9,16 +9,13 @@ use Rattle.std.specs.List.{AllByRecursion, list_all, position_from}
 use Rattle.std.specs.Prelude.{AllPairs}
 use Rattle.std.specs.Str.{bytes_eq}
 use Rattle.np_base.proofs.Lists.{AllPairs-head, AllPairs-tail}
-use Rattle.np_items.specs.Inputs.{items_in, items_by, input_values, json_of}
-use Rattle.np_items.specs.Items.{each_item, items_of, must_be_few}
-use Rattle.np_command_flatten.specs.Types.{Item, NetPolicy}
+use Rattle.np_items.specs.Prelude.{each_item, input_values, items_by, items_in, items_of, json_of, must_be_few}
+use Rattle.np_command_flatten.specs.Prelude.{AreApart, Item, NetPolicy, is_printable, net_item, net_items}
 use Rattle.np_items.proofs.InputLemmas.{values-items_of}
-use Rattle.np_owners.specs.Names.{first_repeat, is_named, place_of, repeat_after, repeated}
+use Rattle.np_owners.specs.Prelude.{first_repeat, is_named, place_of, repeat_after, repeated}
 use Rattle.np_owners.specs.declared.object_name.ObjectName.{ObjectName}
-use Rattle.np_command_flatten.specs.Estates.{AreApart, net_item, net_items}
 use Rattle.np_manifests.specs.Lists.{list_data}
 use Rattle.np_manifests.specs.Manifests as manifests
-use Rattle.np_command_flatten.specs.Printable.{is_printable}
 use Rattle.np_command_flatten.proofs.PolicyReads.{item-read}
 
 -- ---- reading

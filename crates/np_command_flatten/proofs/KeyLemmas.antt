@@ -4,16 +4,13 @@ use Rattle.std.proofs.lemmas.Bool.{and_from, and_parts}
 use Rattle.std.proofs.lemmas.List.Folds.{list_all-append}
 use Rattle.std.specs.List.{list_all}
 use Rattle.std.specs.Option.{option_map_or}
-use Rattle.np_model.specs.Lawful.{is_well, is_well_pod}
-use Rattle.np_command_flatten.specs.Types.{EstateLists, NetPeer, NetPolicy, NetRule, Requirement, Selector}
-use Rattle.np_fold.specs.Keys.{keys_of_admin_peer, keys_of_admin_policy, keys_of_admin_rule, keys_of_baseline, keys_of_estate, keys_of_net_direction, keys_of_net_peer, keys_of_net_policy}
-use Rattle.np_fold.specs.Keys.{keys_of_net_rule, keys_of_optional, keys_of_selector, keys_of_service, keys_of_subject}
-use Rattle.np_model.specs.Words.{is_name, is_word, is_whole_word}
+use Rattle.np_model.specs.Prelude.{is_name, is_well, is_well_admin_peer, is_well_admin_policy, is_well_admin_port, is_well_admin_rule, is_well_base_policy, is_well_base_rule, is_well_net_peer, is_well_net_policy, is_well_net_port, is_well_net_rule, is_well_pod, is_well_subject, is_whole_word, is_word, is_worded, option_all}
+use Rattle.np_command_flatten.specs.Prelude.{EstateLists, NetPeer, NetPolicy, NetRule, Requirement, Selector}
+use Rattle.np_fold.specs.Prelude.{keys_of_admin_peer, keys_of_admin_policy, keys_of_admin_rule, keys_of_baseline, keys_of_estate, keys_of_net_direction, keys_of_net_peer, keys_of_net_policy, keys_of_net_rule, keys_of_optional, keys_of_selector, keys_of_service, keys_of_subject}
 use Rattle.np_labels.specs.WellFormed as labels
 use Rattle.np_model.specs.WellObjects as objects
 use Rattle.np_model.specs.declared.service.ServiceItem.{ServiceItem}
-use Rattle.np_model.specs.WellPolicies.{is_well_admin_peer, is_well_admin_policy, is_well_admin_port, is_well_admin_rule, is_well_base_policy, is_well_base_rule, is_well_net_peer}
-use Rattle.np_model.specs.WellPolicies.{is_well_net_policy, is_well_net_port, is_well_net_rule, is_well_selector, is_well_subject, is_worded}
+use Rattle.np_model.specs.WellPolicies.{is_well_selector}
 use Rattle.np_model.specs.declared.admin_policy.AdminPeer.{AdminPeer}
 use Rattle.np_model.specs.declared.admin_policy.AdminPeer.TheVariants as admin
 use Rattle.np_model.specs.declared.admin_policy.AdminPolicy.{AdminPolicy}
@@ -21,7 +18,6 @@ use Rattle.np_model.specs.declared.admin_policy.AdminRule.{AdminRule}
 use Rattle.np_model.specs.declared.admin_policy.BasePolicy.{BasePolicy}
 use Rattle.np_model.specs.declared.admin_policy.Subject.{Subject}
 use Rattle.np_model.specs.declared.network_policy.NetPeer.TheVariants as net
-use Rattle.np_model.specs.WellObjects.{option_all}
 
 -- ---- lists of keys
 

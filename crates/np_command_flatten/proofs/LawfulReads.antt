@@ -5,23 +5,20 @@ use Rattle.std.proofs.lemmas.List.Elements.{All-from_recursion}
 use Rattle.std.specs.List.{AllByRecursion}
 use Rattle.std.specs.Prelude.{nat_le}
 use Rattle.serde_json.specs.Data.{Data}
-use Rattle.np_model.specs.Lawful.{IsLawful}
-use Rattle.np_reading.specs.Reading.{estate_of, or_refused}
-use Rattle.np_command_flatten.specs.Types.{EstateLists, Item}
+use Rattle.np_model.specs.Prelude.{IsLawful}
+use Rattle.np_reading.specs.Prelude.{estate_of, or_refused}
+use Rattle.np_command_flatten.specs.Prelude.{EstateLists, Item}
 use Rattle.np_reading.proofs.LawfulReading.{estate_of_items-lawful}
 use Rattle.np_reading.proofs.ReadingLemmas.{estate_of-passed}
-use Rattle.np_items.specs.Inputs.{all_values}
-use Rattle.np_items.specs.Items.{each_item, item_of, items_of, must_be_few, must_be_no_list, numbered, policy_or_object}
-use Rattle.np_items.specs.Readings.{Reading}
-use Rattle.np_items.specs.WellFormed.{IsWellItem}
+use Rattle.np_items.specs.Prelude.{IsWellItem, Reading, all_values, each_item, item_of, items_of, must_be_few, must_be_no_list, numbered, policy_or_object}
 use Rattle.np_items.specs.declared.fault.ItemsFault.TheVariants.{TooManyItems}
 use Rattle.np_items.specs.declared.item.Item.TheVariants as item
-use Rattle.np_json.specs.Shapes.{Read, ◌>>◌}
+use Rattle.np_json.specs.Prelude.{Read, ◌>>◌}
 use Rattle.np_objects.proofs.WellLemmas.{object_of-well}
-use Rattle.np_objects.specs.Objects.{object_of}
+use Rattle.np_objects.specs.Prelude.{object_of}
 use Rattle.np_policies.proofs.ReadLemmas.{bind-output, then-output}
 use Rattle.np_policies.proofs.WellPolicies.{policy-well}
-use Rattle.np_policies.specs.Policies.{policy_of}
+use Rattle.np_policies.specs.Prelude.{policy_of}
 use Rattle.np_policies.specs.declared.policy.Policy.{Policy}
 
 -- ---- items

@@ -8,11 +8,10 @@ use Rattle.serde_json.specs.Data.{Data, string}
 use Rattle.serde_json.specs.View.{items_of}
 use Rattle.serde_json.specs.Written.{compact_text, items_text}
 use Rattle.np_written.specs.Values.{object_with, list_with}
-use Rattle.np_items.specs.Inputs.{json_of}
-use Rattle.np_command_flatten.specs.Types.{NetPolicy}
+use Rattle.np_items.specs.Prelude.{json_of}
+use Rattle.np_command_flatten.specs.Prelude.{NetPolicy, is_printable}
 use Rattle.np_manifests.specs.Lists.{list_data, list_line, list_text, policy_text}
 use Rattle.np_manifests.specs.Manifests as manifests
-use Rattle.np_command_flatten.specs.Printable.{is_printable}
 use Rattle.np_command_flatten.proofs.LineLemmas.{tokens-line}
 use Rattle.np_command_flatten.proofs.PrintedLemmas.{policy-readable}
 use Rattle.np_command_flatten.proofs.ReadableLemmas.{Entry, IsReadable, json_of-same_tokens, list-readable, object-readable, string-readable}

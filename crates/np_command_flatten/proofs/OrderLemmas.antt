@@ -7,8 +7,7 @@ use Rattle.std.specs.Cmp.Lexicographic.{slice_cmp, nat_list_cmp_total}
 use Rattle.std.specs.List.{AllByRecursion, list_all}
 use Rattle.std.specs.Ordering.{nat_cmp, ordering_reverse}
 use Rattle.std.specs.declared.cmp.Ordering.TheVariants.{Greater}
-use Rattle.np_labels.specs.DistinctAscends.{Less-from_test}
-use Rattle.np_labels.specs.Values.{is_ascending, is_below}
+use Rattle.np_labels.specs.Prelude.{Less-from_test, is_ascending, is_below}
 
 -- a text is above each of some
 abbrev pub IsAbove : List ℕ → List (List ℕ) → Type 0

@@ -3,20 +3,14 @@ use Rattle.std.proofs.Common.{◌≡◌, ℕ, List, [], ◌∷◌, Bool, true, f
 use Rattle.std.proofs.lemmas.Bool.{and_parts, not-true}
 use Rattle.std.specs.List.{AllByRecursion, list_all}
 use Rattle.serde_json.specs.Data.{Data, string}
-use Rattle.np_items.specs.Items.{item_of, must_be_no_list}
-use Rattle.np_json.specs.Meta.{namespace, namespaced_name, type_meta}
-use Rattle.np_json.specs.Scalars.{name}
-use Rattle.np_json.specs.Shapes.{must_be_object, refuse_if, required, under}
+use Rattle.np_items.specs.Prelude.{item_of, must_be_no_list}
+use Rattle.np_json.specs.Prelude.{must_be_object, name, namespace, namespaced_name, refuse_if, required, type_meta, under}
 use Rattle.np_json.proofs.ReadLemmas.{name-read}
-use Rattle.np_model.specs.Words.{has_slash, is_name, is_word}
-use Rattle.np_policies.specs.NetworkPolicies.{net_policy, net_policy_by, net_rule, net_rules, net_spec, policy_type}
-use Rattle.np_policies.specs.Policies.{policy_by, policy_of}
-use Rattle.np_policies.specs.Selectors.{selector}
+use Rattle.np_model.specs.Prelude.{has_slash, is_name, is_word}
+use Rattle.np_policies.specs.Prelude.{net_policy, net_policy_by, net_rule, net_rules, net_spec, policy_by, policy_of, policy_type, selector}
 use Rattle.np_model.specs.WellPolicies.{is_well_selector}
-use Rattle.np_command_flatten.specs.Types.{Direction, Egress, Ingress, NetPolicy, NetRule}
-use Rattle.np_command_flatten.specs.Estates.{net_item}
+use Rattle.np_command_flatten.specs.Prelude.{Direction, Egress, Ingress, NetPolicy, NetRule, are_printable_rules, is_printable, is_printable_rule, net_item}
 use Rattle.np_manifests.specs.Manifests as manifests
-use Rattle.np_command_flatten.specs.Printable.{are_printable_rules, is_printable, is_printable_rule}
 use Rattle.np_command_flatten.proofs.RuleReads.{rule-read}
 use Rattle.np_command_flatten.proofs.SelectorReads.{selector-read}
 use Rattle.np_command_flatten.proofs.ShapeLemmas.{all-passed, listed-none, listed-read, optional-read, required-read}

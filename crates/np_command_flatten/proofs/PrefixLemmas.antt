@@ -4,15 +4,12 @@ use Rattle.std.proofs.lemmas.Bool.{and_from, and_parts, cases_Bool, eq-eqb, or_l
 use Rattle.std.proofs.lemmas.List.Elements.{recursion_from_All}
 use Rattle.std.specs.List.{AllByRecursion, list_all}
 use Rattle.np_addr.proofs.RightPrefixes.{prefixes_of-right}
-use Rattle.np_addr.specs.Addresses.{IsAddress, IsCidr, cidr_has}
-use Rattle.np_addr.specs.Blocks.{AddressRanges, IsAddressSet, base_of, set_has}
-use Rattle.np_addr.specs.Prefixes.{prefixes_of, some_has}
-use Rattle.np_command_flatten.specs.Types.{Address, Cidr, Four, Range, Six}
+use Rattle.np_addr.specs.Prelude.{AddressRanges, IsAddress, IsAddressSet, IsCidr, base_of, cidr_has, prefixes_of, set_has, some_has}
+use Rattle.np_command_flatten.specs.Prelude.{Address, Cidr, Four, Range, Six, is_printable_block}
 use Rattle.np_addr.specs.declared.address.Address.TheVariants as address
 use Rattle.np_addr.proofs.OnePrefixList.{base_is_in}
 use Rattle.np_base.specs.Ranges.{IsAscending, holds, is_within}
-use Rattle.np_model.specs.WellPolicies.{is_well_cidr}
-use Rattle.np_command_flatten.specs.Printable.{is_printable_block}
+use Rattle.np_model.specs.Prelude.{is_well_cidr}
 
 -- ---- numbers of ascending ranges
 

@@ -6,17 +6,15 @@ use Rattle.json.proofs.Printed.Utf8.{IsUtf8-are_ascii}
 use Rattle.serde_json.specs.Data.{Data, number, string, unsigned}
 use Rattle.np_written.specs.Values.{list_with}
 use Rattle.np_base.proofs.Each.{All-append}
-use Rattle.np_addr.specs.Blocks.{first_bad_except}
-use Rattle.np_command_flatten.specs.Types.{Absent, Block, Cidr, Direction, Egress, Ingress, Named, NetPeer, NetPolicy, NetPort, NetRule, NoneOf, OneOf, Op, Pods, Present, Proto, Requirement, Sctp, Selector, Span, Tcp, Udp}
+use Rattle.np_addr.specs.Prelude.{first_bad_except}
+use Rattle.np_command_flatten.specs.Prelude.{Absent, Block, Cidr, Direction, Egress, Ingress, Named, NetPeer, NetPolicy, NetPort, NetRule, NoneOf, OneOf, Op, Pods, Present, Proto, Requirement, Sctp, Selector, Span, Tcp, Udp, are_printable_rules, is_printable, is_printable_block, is_printable_peer, is_printable_port, is_printable_rule}
 use Rattle.np_addr.specs.declared.cidr.Cidr.TheVariants as cidr
-use Rattle.np_conns.specs.ConnsText.{proto_name}
-use Rattle.np_model.specs.Words.{is_name, is_word, is_whole_word}
+use Rattle.np_conns.specs.Prelude.{proto_name}
+use Rattle.np_model.specs.Prelude.{is_name, is_whole_word, is_word, is_worded, option_all}
 use Rattle.np_labels.specs.WellFormed as well
-use Rattle.np_model.specs.WellPolicies.{is_well_selector, is_worded}
-use Rattle.np_model.specs.WellObjects.{option_all}
+use Rattle.np_model.specs.WellPolicies.{is_well_selector}
 use Rattle.np_manifests.specs.Manifests as manifests
 use Rattle.np_manifests.specs.Members.{if_given, if_some}
-use Rattle.np_command_flatten.specs.Printable.{are_printable_rules, is_printable, is_printable_block, is_printable_peer, is_printable_port, is_printable_rule}
 use Rattle.np_command_flatten.proofs.ReadableLemmas.{are_names, AllReadable, Entry, IsReadable, deeper, list-readable, number-readable, object-readable, string-readable}
 use Rattle.np_command_flatten.proofs.RuleReads.{block-well, key-parts}
 use Rattle.np_command_flatten.proofs.ShapeLemmas.{all-mapped, all-passed}

@@ -2,28 +2,21 @@
 use Rattle.std.proofs.Common.{◌≡◌, ℕ, List, [], ◌∷◌, Option, None, Some, Ok, refl, subst, ◌∙◌}
 use Rattle.std.specs.Prelude.{IsPermutation}
 use Rattle.std.proofs.lemmas.Option.{none-some, same_Some}
-use Rattle.np_command.specs.Inputs.{lists_of}
-use Rattle.np_command.specs.Prints.{fault_in, text_in}
-use Rattle.np_command.specs.Sinks.{SinkTrace, TookWhole}
-use Rattle.np_command_flatten.specs.Types.{Alike, EstateLists, Fault, FlatFault, NetPolicy, NoMemory, Split}
+use Rattle.np_command.specs.Prelude.{SinkTrace, TookWhole, fault_in, lists_of, text_in}
+use Rattle.np_command_flatten.specs.Prelude.{Alike, EstateLists, Fault, FlatFault, FlattensAll, NetPolicy, NoMemory, RefusesFlatten, Split, estate_with, flatten_reply, flatten_text, policies_unless}
 use Rattle.np_command.proofs.InputLemmas.{read-small}
 use Rattle.np_command_flatten.proofs.RefusedLemmas.{tells-alike, tells-split}
 use Rattle.np_command_flatten.proofs.VerdictLemmas.{address-same, between-same}
-use Rattle.np_command_flatten.specs.Promise.{FlattensAll, RefusesFlatten}
-use Rattle.np_command_flatten.specs.Report.{flatten_reply, flatten_text, policies_unless}
 use Rattle.np_command_flatten.proofs.EstateLemmas.{policies-once}
 use Rattle.np_command_flatten.proofs.FlatLemmas.{estate_of-flat, policies-apart, policies-printable}
 use Rattle.np_command_flatten.proofs.LawfulReads.{estate-lawful}
 use Rattle.np_command_flatten.proofs.ListLemmas.{json_of-list_line}
-use Rattle.np_command_flatten.specs.Estates.{estate_with}
 use Rattle.np_manifests.specs.Lists.{list_line}
-use Rattle.np_model.specs.Lawful.{IsLawful}
-use Rattle.np_reading.specs.Reading.{estate_of}
+use Rattle.np_model.specs.Prelude.{IsLawful}
+use Rattle.np_reading.specs.Prelude.{estate_of}
 use Rattle.np_flatten.proofs.FlatVerdicts.{addresses-same, pods-same}
-use Rattle.np_flatten.specs.Faults.{fault_by, flat_fault, is_split, is_unlike}
-use Rattle.np_flatten.specs.Flat.{flat_policies}
-use Rattle.np_flatten.specs.Pairs.{first_pair}
-use Rattle.np_kinds.specs.Between.{number_of_workloads}
+use Rattle.np_flatten.specs.Prelude.{fault_by, first_pair, flat_fault, flat_policies, is_split, is_unlike}
+use Rattle.np_kinds.specs.Prelude.{number_of_workloads}
 
 -- ---- what is said
 

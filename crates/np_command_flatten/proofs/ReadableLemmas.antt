@@ -19,9 +19,9 @@ use Rattle.serde_json.proofs.Numbers.{number_of-decimal}
 use Rattle.np_written.proofs.TextLemmas.{IsUtf8-comma, read-same_tokens}
 use Rattle.np_written.specs.Values.{members_with, object_with, list_with}
 use Rattle.np_base.proofs.Texts.{IsUtf8-byte}
-use Rattle.np_items.specs.Inputs.{json_of}
+use Rattle.np_items.specs.Prelude.{json_of}
 use Rattle.np_items.proofs.InputLemmas.{json_of-read}
-use Rattle.np_labels.specs.Values.{is_ascending}
+use Rattle.np_labels.specs.Prelude.{is_ascending}
 use Rattle.np_command_flatten.proofs.OrderLemmas.{IsAbove, above-before}
 
 -- a value whose text is UTF-8, whose numbers are written as numbers, which its outline gives, and which nests so deep at

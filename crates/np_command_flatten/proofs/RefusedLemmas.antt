@@ -6,37 +6,27 @@ use Rattle.std.specs.Option.{option_map_or}
 use Rattle.std.specs.Ordering.{nat_cmp}
 use Rattle.std.proofs.lemmas.Bool.{cases_eq, cases_lt, false_from_ne_true, not-true, true≢false}
 use Rattle.std.proofs.lemmas.Map.Keys.{below_from_sorted}
-use Rattle.np_command_flatten.specs.Types.{Alike, Direction, EstateLists, Family, PortSpot, Split}
+use Rattle.np_command_flatten.specs.Prelude.{Alike, AreFamiliesAlike, AreTreatedAlike, AreTwoPods, Direction, EstateLists, Family, IsListed, PortSpot, RefusesFlatten, Split}
 use Rattle.np_addr.specs.declared.address.Family.TheVariants.{Four, Six}
 use Rattle.np_command.specs.declared.fault.Fault.TheVariants as fault
 use Rattle.np_command_flatten.proofs.FlattenLemmas.{fault-workloads}
-use Rattle.np_command_flatten.specs.Promise.{AreFamiliesAlike, AreTreatedAlike, AreTwoPods, IsListed, RefusesFlatten}
-use Rattle.np_conns.specs.Conns.{is_spot}
+use Rattle.np_conns.specs.Prelude.{is_spot}
 use Rattle.np_fold.proofs.WorkloadLemmas.{number-in_workloads, one_workload, pods-ascend}
-use Rattle.np_fold.specs.Workloads.{Folding, folding_of, members_of, name_of, number_of}
-use Rattle.np_model.specs.Families.{families_of}
-use Rattle.np_model.specs.Lawful.{IsLawful}
+use Rattle.np_fold.specs.Prelude.{Folding, folding_of, members_of, name_of, number_of}
+use Rattle.np_model.specs.Prelude.{IsLawful, families_of}
 use Rattle.np_model.specs.declared.pod.Pod.{Pod}
-use Rattle.np_rules.specs.model.Ends.{pod_end}
-use Rattle.np_rules.specs.model.Verdict.{no_pod, pod_at}
+use Rattle.np_rules.specs.Prelude.{no_pod, pod_at, pod_end}
 use Rattle.np_flatten.proofs.AddressVerdicts.{row_tells, rows-any}
 use Rattle.np_flatten.proofs.GroupLemmas.{look_decides}
 use Rattle.np_flatten.proofs.KindGroups.{kind-looks}
 use Rattle.np_flatten.proofs.RefusedLemmas.{alike_differ, alike_is_first, alike_together, nothing_split, split_differs, split_is_first}
 use Rattle.np_flatten.proofs.SplitLemmas.{families_cases}
-use Rattle.np_flatten.specs.Faults.{family_of_list, first_family, flat_fault, is_defined}
-use Rattle.np_flatten.specs.Groups.{are_together, look_alike, relevant}
-use Rattle.np_flatten.specs.Refused.{AreFamiliesAlike as FamiliesPassAlike, AreTreatedAlike as WorkloadsPassAlike, PassTheSame}
-use Rattle.np_flatten.specs.steps.Seen.{seen}
+use Rattle.np_flatten.specs.Prelude.{AreFamiliesAlike as FamiliesPassAlike, AreTreatedAlike as WorkloadsPassAlike, PassTheSame, are_together, family_of_list, first_family, flat_fault, is_defined, look_alike, relevant, seen}
 use Rattle.np_kinds.proofs.MemberLemmas.{destination-member, member-number, members-some, members-within, not-alone, own-member, source-member}
 use Rattle.np_kinds.proofs.PairLemmas.{between_pods-pair_allows, pair_allows-alone, pod_there, with_address-address_allows}
 use Rattle.np_table.proofs.RangeOneList.{walk-agrees}
-use Rattle.np_kinds.specs.Kinds.{first_end}
-use Rattle.np_table.specs.Right.{Stretch, walk}
-use Rattle.np_table.specs.Rows.{address_row, address_rows, four_of, rows_of_addresses, six_of}
-use Rattle.np_table.specs.Said.{IsInFamily}
-use Rattle.np_kinds.specs.Between.{address_allows, between_pods, destination_pod, is_alone, number_of_workloads, pair_allows, source_pod}
-use Rattle.np_table.specs.Table.{estate_table, table_of}
+use Rattle.np_kinds.specs.Prelude.{address_allows, between_pods, destination_pod, first_end, is_alone, number_of_workloads, pair_allows, source_pod}
+use Rattle.np_table.specs.Prelude.{IsInFamily, Stretch, address_row, address_rows, estate_table, four_of, rows_of_addresses, six_of, table_of, walk}
 use Rattle.np_table.specs.declared.rows.AddressRow.{AddressRow}
 
 -- ---- pods of workloads

@@ -1,28 +1,20 @@
 -- Ports, peers and rules are read as they are. For PolicyReads and PrintedLemmas.
-use Rattle.std.proofs.Common.{◌≡◌, ℕ, ◌-◌, ◌%◌, ◌^◌, ◌≤◌, List, [], ◌∷◌, ◌++◌, Bool, true, false, not, ◌&&◌, ◌==◌, nat_le, nat_lt, is_none, length, map, Option, Some, None, Ok, codes, if◌then◌else◌}
-use Rattle.std.proofs.Common.{refl, ap, arith, eqb-true, le-leb, lt-ltb}
+use Rattle.std.proofs.Common.{◌≡◌, ℕ, ◌-◌, ◌%◌, ◌^◌, ◌≤◌, List, [], ◌∷◌, ◌++◌, Bool, true, false, not, ◌&&◌, ◌==◌, nat_le, nat_lt, is_none, length, map, Option, Some, None, Ok, codes, if◌then◌else◌, refl, ap, arith, eqb-true, le-leb, lt-ltb}
 use Rattle.std.proofs.lemmas.Bool.{and_parts, leb-true, ltb-true, not-true}
 use Rattle.std.specs.List.{AllByRecursion, list_all}
 use Rattle.serde_json.specs.Data.{Data, number, string, unsigned}
 use Rattle.np_addr.proofs.CanonicalLemmas.{cidr_of-cidr_text}
-use Rattle.np_addr.specs.Addresses.{IsAddress, IsCidr}
-use Rattle.np_addr.specs.Blocks.{base_of, first_bad_except}
-use Rattle.np_command_flatten.specs.Types.{Block, Cidr, Direction, Egress, Four, Ingress, Named, NetPeer, NetPort, NetRule, Pods, Proto, Sctp, Selector, Six, Span, Tcp, Udp}
-use Rattle.np_conns.specs.ConnsText.{proto_name}
-use Rattle.np_json.specs.Members.{member_of}
+use Rattle.np_addr.specs.Prelude.{IsAddress, IsCidr, base_of, first_bad_except}
+use Rattle.np_command_flatten.specs.Prelude.{Block, Cidr, Direction, Egress, Four, Ingress, Named, NetPeer, NetPort, NetRule, Pods, Proto, Sctp, Selector, Six, Span, Tcp, Udp, is_printable_block, is_printable_peer, is_printable_port, is_printable_rule}
+use Rattle.np_conns.specs.Prelude.{proto_name}
+use Rattle.np_json.specs.Prelude.{listed, member_of, must_be_object, optional, port, protocol_name, refuse_if, required, under}
 use Rattle.np_written.specs.Values.{object_with}
-use Rattle.np_json.specs.Scalars.{port, protocol_name}
-use Rattle.np_json.specs.Shapes.{listed, must_be_object, optional, refuse_if, required, under}
 use Rattle.np_json.proofs.ReadLemmas.{port-read}
-use Rattle.np_model.specs.Words.{is_word, is_whole_word}
-use Rattle.np_policies.specs.Blocks.{cidr, ip_block}
-use Rattle.np_policies.specs.NetworkPolicies.{net_peer, net_rule}
-use Rattle.np_policies.specs.Ports.{end_port, net_port, port_name, port_value, protocol}
-use Rattle.np_policies.specs.Selectors.{selector}
-use Rattle.np_model.specs.WellPolicies.{is_well_cidr, is_well_selector}
+use Rattle.np_model.specs.Prelude.{is_well_cidr, is_whole_word, is_word}
+use Rattle.np_policies.specs.Prelude.{cidr, end_port, ip_block, net_peer, net_port, net_rule, port_name, port_value, protocol, selector}
+use Rattle.np_model.specs.WellPolicies.{is_well_selector}
 use Rattle.np_manifests.specs.Manifests as manifests
 use Rattle.np_manifests.specs.Members.{if_some}
-use Rattle.np_command_flatten.specs.Printable.{is_printable_block, is_printable_peer, is_printable_port, is_printable_rule}
 use Rattle.np_command_flatten.proofs.SelectorReads.{selector-read}
 use Rattle.np_command_flatten.proofs.ShapeLemmas.{all-passed, optional-none, optional-read, required-read, some-read, some_member}
 

@@ -7,17 +7,14 @@ use Rattle.std.specs.List.{AllByRecursion, list_all}
 use Rattle.std.specs.Ordering.{nat_cmp}
 use mathlib.Core.Bool.{Bool-set}
 use Rattle.serde_json.specs.Data.{Data, string}
-use Rattle.np_json.specs.Members.{member_of}
+use Rattle.np_json.specs.Prelude.{labels, listed, member_of, must_be_object, refuse_if, required, text, word}
 use Rattle.np_written.specs.Values.{object_with}
-use Rattle.np_json.specs.Scalars.{labels, text, word}
-use Rattle.np_json.specs.Shapes.{listed, must_be_object, refuse_if, required}
-use Rattle.np_model.specs.Words.{is_word, is_whole_word}
-use Rattle.np_labels.specs.Selectors.{requirement_of}
-use Rattle.np_labels.specs.Values.{is_ascending}
+use Rattle.np_model.specs.Prelude.{is_whole_word, is_word, is_worded}
+use Rattle.np_labels.specs.Prelude.{is_ascending, requirement_of}
 use Rattle.np_labels.specs.WellFormed as well
-use Rattle.np_command_flatten.specs.Types.{Absent, NoneOf, OneOf, Op, Present, Requirement, Selector}
-use Rattle.np_policies.specs.Selectors.{expression, fitting, key, op_named, selector}
-use Rattle.np_model.specs.WellPolicies.{is_well_selector, is_worded}
+use Rattle.np_command_flatten.specs.Prelude.{Absent, NoneOf, OneOf, Op, Present, Requirement, Selector}
+use Rattle.np_policies.specs.Prelude.{expression, fitting, key, op_named, selector}
+use Rattle.np_model.specs.WellPolicies.{is_well_selector}
 use Rattle.np_manifests.specs.Manifests as manifests
 use Rattle.np_manifests.specs.Members.{if_some}
 use Rattle.np_command_flatten.proofs.OrderLemmas.{above-before, insert-last}

@@ -4,9 +4,8 @@ use Rattle.std.proofs.lemmas.Bool.{and_parts}
 use Rattle.std.specs.List.{AllByRecursion, list_all}
 use Rattle.serde_json.specs.Data.{Data}
 use Rattle.serde_json.specs.View.{items_of}
-use Rattle.np_json.specs.Members.{member_of}
+use Rattle.np_json.specs.Prelude.{Read, each_item, listed, member_of, optional, required, under}
 use Rattle.np_written.specs.Values.{list_with}
-use Rattle.np_json.specs.Shapes.{Read, each_item, listed, optional, required, under}
 
 -- ---- tests of all
 

@@ -9,11 +9,11 @@ use Rattle.std.specs.List.{AllByRecursion}
 use Rattle.std.specs.Net.Text.{longest_zero_run}
 use Rattle.std.specs.Str.Parse.{AllDigits}
 use Rattle.json.proofs.Printed.Utf8.{are_ascii, IsUtf8-are_ascii}
-use Rattle.np_addr.specs.AddressText.{address_text, cidr_text, group_text, groups_of, groups_text, low_groups, shortened_text}
-use Rattle.np_addr.specs.Blocks.{base_of, bits_of}
-use Rattle.np_command_flatten.specs.Types.{Address, Cidr}
+use Rattle.np_addr.specs.AddressText.{groups_of}
+use Rattle.np_addr.specs.Prelude.{address_text, base_of, bits_of, cidr_text, group_text, groups_text, low_groups, shortened_text}
+use Rattle.np_command_flatten.specs.Prelude.{Address, Cidr}
 use Rattle.np_addr.specs.declared.address.Address.TheVariants.{Four, Six}
-use Rattle.np_model.specs.Words.{has_slash, is_name, is_word, is_word_byte}
+use Rattle.np_model.specs.Prelude.{has_slash, is_name, is_word, is_word_byte}
 
 -- ---- words
 

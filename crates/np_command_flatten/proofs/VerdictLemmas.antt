@@ -3,17 +3,11 @@ use Rattle.std.proofs.Common.{◌≡◌, ℕ, List, [], Bool, true, ◌&&◌, if
 use Rattle.std.specs.Prelude.{IsPermutation}
 use Rattle.std.specs.List.{list_any}
 use Rattle.std.proofs.lemmas.List.Sorted.{list_any-IsPermutation}
-use Rattle.np_command_flatten.specs.Types.{Direction, EstateLists, Family, NetPolicy, PortSpot}
-use Rattle.np_command_flatten.specs.Promise.{with_policies}
+use Rattle.np_command_flatten.specs.Prelude.{Direction, EstateLists, Family, NetPolicy, PortSpot, with_policies}
 use Rattle.np_model.specs.declared.direction.Direction.TheVariants.{Egress, Ingress}
-use Rattle.np_rules.specs.model.Ends.{Contact, End, Packet, PodEnd, address, contact_of, pod}
-use Rattle.np_rules.specs.model.NetTier.{is_isolated, isolates, permits, placed_net_matches}
-use Rattle.np_rules.specs.model.Places.{net_places_of}
-use Rattle.np_rules.specs.model.Selection.{net_selects}
-use Rattle.np_rules.specs.model.Sides.{side_allows}
-use Rattle.np_rules.specs.model.Verdict.{allows, end_allows, pod_at}
+use Rattle.np_rules.specs.Prelude.{Contact, End, Packet, PodEnd, address, allows, contact_of, end_allows, is_isolated, isolates, net_places_of, net_selects, permits, placed_net_matches, pod, pod_at, side_allows}
 use Rattle.np_flatten.proofs.OnePolicy.{any-flat_map}
-use Rattle.np_kinds.specs.Between.{address_of, between_pods, with_address}
+use Rattle.np_kinds.specs.Prelude.{address_of, between_pods, with_address}
 
 -- whether some rule of a policy that selects the pod matches
 abbrev policy_permits : Direction → PodEnd → Contact → NetPolicy → Bool

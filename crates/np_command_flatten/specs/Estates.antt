@@ -1,7 +1,7 @@
 -- What a list of policies is read as.
 use Rattle.std.specs.Prelude.{List, [], None, map, IsTrue}
-use Rattle.np_model.specs.Lawful.{are_apart}
-use Rattle.np_reading.specs.Listed.{net_policies_of}
+use Rattle.np_model.specs.Prelude.{are_apart}
+use Rattle.np_reading.specs.Prelude.{net_policies_of}
 use Rattle.np_command_flatten.specs.Types.{EstateLists, Item, NetPolicy}
 use Rattle.np_items.specs.declared.item.Item.TheVariants as item
 use Rattle.np_policies.specs.declared.policy.Policy.TheVariants as policy

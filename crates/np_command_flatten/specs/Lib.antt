@@ -1,4 +1,5 @@
 pub mod Estates
+pub mod Prelude
 pub mod Printable
 pub mod Promise
 pub mod Report

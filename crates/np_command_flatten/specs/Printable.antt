@@ -2,11 +2,10 @@
 -- NetworkPolicy).
 use Rattle.std.specs.Prelude.{◌^◌, List, Bool, ◌&&◌, ◌||◌, nat_le, nat_lt, is_none, is_some, Option}
 use Rattle.std.specs.List.{list_all}
-use Rattle.np_addr.specs.Blocks.{first_bad_except}
+use Rattle.np_addr.specs.Prelude.{first_bad_except}
 use Rattle.np_command_flatten.specs.Types.{Block, Cidr, Four, Named, NetPeer, NetPolicy, NetPort, NetRule, Pods, Six, Span}
-use Rattle.np_model.specs.Words.{is_name, is_whole_word}
-use Rattle.np_model.specs.WellPolicies.{is_well_cidr, is_well_selector}
-use Rattle.np_model.specs.WellObjects.{option_all}
+use Rattle.np_model.specs.Prelude.{is_name, is_well_cidr, is_whole_word, option_all}
+use Rattle.np_model.specs.WellPolicies.{is_well_selector}
 
 -- ports from 1 to 65535, of which the last is not below the first, or a name
 abbrev pub is_printable_port : NetPort → Bool

@@ -1,19 +1,16 @@
 -- What a report of `flatten` says of the bytes of its inputs, and why there is none.
 use Rattle.std.specs.Prelude.{◌≡◌, ◌≢◌, ◌<◌, ℕ, List, [], ◌∷◌, Contains, None, Ok, length, true}
 use Rattle.np_command_flatten.specs.Types.{Direction, EstateLists, Family, Fault, NetPolicy, PortSpot}
-use Rattle.np_command.specs.Inputs.{lists_of}
-use Rattle.np_command.specs.Sinks.{SinkTrace, TookWhole}
+use Rattle.np_command.specs.Prelude.{SinkTrace, TookWhole, lists_of}
 use Rattle.np_command.specs.declared.fault.Fault.TheVariants.{Alike, Split}
-use Rattle.np_conns.specs.Conns.{is_spot}
-use Rattle.np_fold.specs.Workloads.{folding_of, name_of, number_of}
-use Rattle.np_model.specs.Families.{families_of}
-use Rattle.np_reading.specs.Reading.{estate_of}
-use Rattle.np_rules.specs.model.Ends.{pod}
-use Rattle.np_rules.specs.model.Verdict.{pod_at}
-use Rattle.np_flatten.specs.Groups.{look_alike, relevant}
-use Rattle.np_flatten.specs.Refused.{ComesBefore}
-use Rattle.np_table.specs.Said.{IsInFamily}
-use Rattle.np_kinds.specs.Between.{between_pods, with_address}
+use Rattle.np_conns.specs.Prelude.{is_spot}
+use Rattle.np_fold.specs.Prelude.{folding_of, name_of, number_of}
+use Rattle.np_model.specs.Prelude.{families_of}
+use Rattle.np_reading.specs.Prelude.{estate_of}
+use Rattle.np_rules.specs.Prelude.{pod, pod_at}
+use Rattle.np_flatten.specs.Prelude.{ComesBefore, look_alike, relevant}
+use Rattle.np_table.specs.Prelude.{IsInFamily}
+use Rattle.np_kinds.specs.Prelude.{between_pods, with_address}
 
 -- ---- the same verdicts
 

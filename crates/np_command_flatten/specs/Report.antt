@@ -2,11 +2,10 @@
 use Rattle.std.specs.Prelude.{ℕ, List, [], ◌++◌, ◌==◌, codes, Option, Some, None, Result, Ok, Err, if◌then◌else◌}
 use Rattle.np_command_flatten.specs.Types.{Alike, EstateLists, Fault, FlatFault, NoMemory, Split}
 use Rattle.np_command.specs.declared.fault.Fault.TheVariants as fault
-use Rattle.np_fold.specs.Workloads.{folding_of, name_of}
+use Rattle.np_fold.specs.Prelude.{folding_of, name_of}
 use Rattle.np_manifests.specs.Lists.{list_line, policy_text}
-use Rattle.np_flatten.specs.Faults.{flat_fault}
-use Rattle.np_flatten.specs.Flat.{flat_policies, flat_policy}
-use Rattle.np_kinds.specs.Between.{IsWorkload}
+use Rattle.np_flatten.specs.Prelude.{flat_fault, flat_policies, flat_policy}
+use Rattle.np_kinds.specs.Prelude.{IsWorkload}
 
 -- the policies of all groups as one line
 unfoldable pub flatten_text : EstateLists → List ℕ

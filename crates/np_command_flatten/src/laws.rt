@@ -1,15 +1,14 @@
 //! What is read of the texts of policies. Each law is the contract of a call that does nothing.
 ghost use Rattle.std.specs.Prelude.{◌≡◌, ◌≤◌, ◌++◌, ℕ, List, [], ◌∷◌, true, length, Ok, AllPairs, IsPermutation};
 ghost use Rattle.std.specs.List.{join_by, list_all};
-ghost use Rattle.np_model.specs.Lawful.{IsLawful, StandsBefore};
-ghost use Rattle.np_reading.specs.Reading.{estate_of};
+ghost use Rattle.np_model.specs.Prelude.{IsLawful, StandsBefore};
+ghost use Rattle.np_reading.specs.Prelude.{estate_of};
 ghost use Rattle.np_model.specs.declared.lists.EstateLists.{EstateLists};
-ghost use Rattle.np_items.specs.Items.{items_of};
-ghost use Rattle.np_command_flatten.specs.Estates.{AreApart, estate_with, net_items};
+ghost use Rattle.np_items.specs.Prelude.{items_of};
+ghost use Rattle.np_command_flatten.specs.Prelude.{AreApart, estate_with, is_printable, net_items};
 ghost use Rattle.np_manifests.specs.Lists.{list_line, list_text, policy_text};
-ghost use Rattle.np_command_flatten.specs.Printable.{is_printable};
 ghost use Rattle.np_model.specs.declared.network_policy.NetPolicy.{NetPolicy};
-ghost use Rattle.np_flatten.specs.Flat.{flat_policies};
+ghost use Rattle.np_flatten.specs.Prelude.{flat_policies};
 
 use np_manifests::{LIST_END, LIST_FRONT, LIST_SEPARATOR};
 

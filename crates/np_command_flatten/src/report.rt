@@ -1,10 +1,8 @@
 //! `flatten`: one tier of NetworkPolicies with the same verdicts.
 ghost use Rattle.std.specs.Prelude.{◌≡◌, ◌≤◌, ◌<◌, Err, IfOk, Some};
-ghost use Rattle.np_command.specs.Prints.{Wrote};
-ghost use Rattle.np_command.specs.Sinks.{sunk};
-ghost use Rattle.np_command.specs.Written.{Writes};
+ghost use Rattle.np_command.specs.Prelude.{Writes, Wrote, sunk};
 ghost use Rattle.np_command_flatten.specs.Report as spec;
-ghost use Rattle.np_flatten.specs.Groups.{group_count};
+ghost use Rattle.np_flatten.specs.Prelude.{group_count};
 
 use np_base::{NoMemory, Steps, Text};
 use np_command::{Failure, Fault, WriteFault};

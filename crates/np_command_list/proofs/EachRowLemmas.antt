@@ -10,22 +10,18 @@ use Rattle.std.proofs.lemmas.Bool.{false_from_ne_true, false≢true}
 use Rattle.std.proofs.lemmas.Bool.Decides.{eqb_tells}
 use Rattle.std.proofs.lemmas.List.Elements.{All-append, All-map, All-weaker}
 use Rattle.np_base.proofs.Lists.{All-numbers}
-use Rattle.np_command_list.specs.Types.{AddressRow, Direction, Egress, EstateLists, Family, Four, Ingress, PortSpot, Row, Six}
+use Rattle.np_command_list.specs.Prelude.{AddressRow, Direction, Egress, EstateLists, Family, Four, Ingress, IsPodOf, IsRowOf, IsSpanRow, LetSomePass, PortSpot, Row, Six}
 use Rattle.np_command_list.proofs.RowPartLemmas.{Agree, IsStretchOf, families-each, row_if-each, walk-stretches}
-use Rattle.np_command_list.specs.EachRow.{IsPodOf, IsRowOf, IsSpanRow, LetSomePass}
 use Rattle.np_fold.proofs.WorkloadLemmas.{pods-ascend}
-use Rattle.np_fold.specs.Workloads.{folding_of, members_of, number_of}
-use Rattle.np_model.specs.Families.{families_of}
-use Rattle.np_routes.specs.ClusterTable.{all_ingress_rows, cluster_rows, cluster_table, ingress_key, ingress_row}
-use Rattle.np_routes.specs.Controllers.{ingress_allows}
+use Rattle.np_fold.specs.Prelude.{folding_of, members_of, number_of}
+use Rattle.np_model.specs.Prelude.{families_of}
+use Rattle.np_routes.specs.Prelude.{all_ingress_rows, cluster_rows, cluster_table, ingress_allows, ingress_key, ingress_row}
 use Rattle.np_routes.proofs.ClusterLemmas.{estate-names}
 use Rattle.np_kinds.proofs.MemberLemmas.{destination-member, member-number, members-some, members-within, source-member}
 use Rattle.np_kinds.proofs.PairLemmas.{pair_allows-alone, pair_allows-between}
 use Rattle.np_table.proofs.SetLemmas.{has_spot-conns_of}
-use Rattle.np_table.specs.Right.{Stretch, conns_of, walk}
-use Rattle.np_table.specs.Rows.{address_row, address_rows, all_address_rows, all_pair_rows, all_rows, four_of, pair_key, pair_rows, row_of, rows_of_addresses, rows_towards, six_of}
-use Rattle.np_kinds.specs.Between.{IsWorkload, address_allows, between_pods, destination_pod, is_alone, number_of_workloads, pair_allows, source_pod}
-use Rattle.np_table.specs.Table.{estate_table, table_of}
+use Rattle.np_table.specs.Prelude.{Stretch, address_row, address_rows, all_address_rows, all_pair_rows, all_rows, conns_of, estate_table, four_of, pair_key, pair_rows, row_of, rows_of_addresses, rows_towards, six_of, table_of, walk}
+use Rattle.np_kinds.specs.Prelude.{IsWorkload, address_allows, between_pods, destination_pod, is_alone, number_of_workloads, pair_allows, source_pod}
 
 -- the first two of ascending numbers differ
 two-apart : (xs : List ℕ) → IsStrictlySortedBy nat_cmp xs → 1 < length xs → slice_index xs 0 ≢ slice_index xs 1

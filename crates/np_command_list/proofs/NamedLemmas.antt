@@ -8,13 +8,11 @@ use Rattle.std.proofs.lemmas.List.Quantifiers.{position-Some}
 use Rattle.std.proofs.lemmas.List.Sums.{fails_before_first}
 use Rattle.std.proofs.lemmas.Option.{slice_get-get_or}
 use Rattle.std.proofs.lemmas.Slice.Eq.{bytes_eq-Decides}
-use Rattle.np_command_list.specs.Types.{EstateLists, Fault, FocusSide, Query, UnknownEnd}
-use Rattle.np_command.specs.Ends.{or_unknown}
+use Rattle.np_command_list.specs.Prelude.{EstateLists, Fault, FocusSide, IsNamed, Query, UnknownEnd, controller_of, query_for, query_of}
+use Rattle.np_command.specs.Prelude.{or_unknown}
 use Rattle.np_command.proofs.EndLemmas.{no_workload}
-use Rattle.np_command_list.specs.Promise.{IsNamed, query_for}
-use Rattle.np_command_list.specs.Report.{controller_of, query_of}
-use Rattle.np_fold.specs.Workloads.{Workload, folding_of, number_named}
-use Rattle.np_report.specs.RowText.{names_of}
+use Rattle.np_fold.specs.Prelude.{Workload, folding_of, number_named}
+use Rattle.np_report.specs.Prelude.{names_of}
 use Rattle.np_report.specs.declared.query.Query.TheVariants.{Work}
 
 abbrev has_name : List ℕ → Workload → Bool

@@ -10,10 +10,9 @@ use Rattle.std.specs.declared.cmp.Ordering.TheVariants.{Equal, Less}
 use Rattle.std.proofs.lemmas.Bool.{false≢true}
 use Rattle.std.proofs.lemmas.List.Elements.{All-contains, All-contains_itself, All-filter, filter_passes}
 use Rattle.std.proofs.lemmas.List.Folds.{Any-from_list_any, list_any_at}
-use Rattle.np_command_list.specs.Types.{Family, Row, RowKey}
-use Rattle.np_conns.specs.Conns.{has_spot}
-use Rattle.np_command_list.specs.RowOrder.{ComesBefore, rank_of, row_rank}
-use Rattle.np_table.specs.Said.{AllowSamePorts}
+use Rattle.np_command_list.specs.Prelude.{ComesBefore, Family, Row, RowKey, rank_of, row_rank}
+use Rattle.np_conns.specs.Prelude.{has_spot}
+use Rattle.np_table.specs.Prelude.{AllowSamePorts}
 
 -- ---- what a list has
 

@@ -1,19 +1,15 @@
 -- Lists of rows that say what passes are told by one text. For `one_text_says_what_passes`.
 use Rattle.std.proofs.Common.{◌≡◌, ℕ, List, ◌++◌, Contains, Option, refl, ap, ◌∙◌}
-use Rattle.np_command_list.specs.Types.{Controller, Egress, EstateLists, Family, Four, Ingress, Query, Report, Row, RowEnd, RowKey, Six, Span, Work}
+use Rattle.np_command_list.specs.Prelude.{Controller, Egress, EstateLists, Family, Four, Ingress, IsRowOf, Query, Report, Row, RowEnd, RowKey, SayWhatPasses, Six, Span, Work}
 use Rattle.np_command_list.proofs.OneListLemmas.{AreAmong, AreToldAlike, told-alike}
 use Rattle.np_command_list.proofs.SameRangesLemmas.{range-among}
 use Rattle.np_command_list.proofs.SameRowsLemmas.{ingress-among, kept-key, pair-among, row-of}
-use Rattle.np_command_list.specs.EachRow.{IsRowOf}
-use Rattle.np_command_list.specs.Promise.{SayWhatPasses}
 use Rattle.np_conns.proofs.ConnLemmas.{conns_text-agrees}
-use Rattle.np_conns.specs.Conns.{has_spot}
-use Rattle.np_conns.specs.ConnsText.{conns_text}
-use Rattle.np_report.specs.RowText.{end_text, family_suffix, row_text}
-use Rattle.np_report.specs.TableText.{texts_of}
+use Rattle.np_conns.specs.Prelude.{conns_text, has_spot}
+use Rattle.np_report.specs.Prelude.{end_text, family_suffix, row_text, texts_of}
 use Rattle.np_report.specs.declared.row.RowText.{RowText}
-use Rattle.np_routes.specs.ClusterTable.{ingress_key}
-use Rattle.np_table.specs.Rows.{key_of, pair_key}
+use Rattle.np_routes.specs.Prelude.{ingress_key}
+use Rattle.np_table.specs.Prelude.{key_of, pair_key}
 use Rattle.np_table.specs.declared.rows.AddressSpan.TheVariants as span
 
 module _ (lists : EstateLists) (sender : Option ℕ) (query : Query) (rows others : List Row) (say : SayWhatPasses lists sender query rows) (say' : SayWhatPasses lists sender query others) where

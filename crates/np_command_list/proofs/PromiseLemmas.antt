@@ -3,36 +3,24 @@ use Rattle.std.proofs.Common.{◌≡◌, ◌<◌, ◌⊎◌, inl, inr, ℕ, List
 use Rattle.std.proofs.lemmas.Bool.{and_parts, false≢true}
 use Rattle.std.proofs.lemmas.List.Elements.{All-filter, All-head, All-same, filter_passes}
 use Rattle.std.proofs.lemmas.List.Kept.{AllPairs-filter}
-use Rattle.np_command_list.specs.Types.{AddressSpan, Controller, Direction, Egress, EstateLists, Family, Fault, FocusSide, Format, Ingress, Listing, PortSpot, Query, Report, Row, RowEnd, RowKey, Span, Work}
+use Rattle.np_command_list.specs.Prelude.{AddressSpan, ComesBefore, Controller, Direction, Egress, EstateLists, Family, Fault, FocusSide, Format, Ingress, IsRowOf, Listing, PortSpot, Query, RefusesList, Report, Row, RowEnd, RowKey, SayWhatPasses, SaysAddresses, SaysAll, SaysIngresses, SaysPods, Span, Work, controller_of, list_reply, listing, listing_of, listing_text, query_of}
 use Rattle.np_args.specs.declared.focus_side.FocusSide.TheVariants.{Destination, Either, Source}
-use Rattle.np_command.specs.Inputs.{lists_of}
-use Rattle.np_command.specs.Prints.{fault_in, text_in}
-use Rattle.np_command.specs.Sinks.{SinkTrace, TookWhole}
+use Rattle.np_command.specs.Prelude.{SinkTrace, TookWhole, fault_in, lists_of, text_in}
 use Rattle.np_command_list.proofs.EachRowLemmas.{cluster_rows-are}
 use Rattle.np_command_list.proofs.NamedLemmas.{controller-named, controller-unknown, focus-named, focus-unknown}
 use Rattle.np_command_list.proofs.OrderLemmas.{cluster-ordered}
-use Rattle.np_command_list.specs.EachRow.{IsRowOf}
-use Rattle.np_command_list.specs.Promise.{RefusesList, SayWhatPasses, SaysAddresses, SaysAll, SaysIngresses, SaysPods}
-use Rattle.np_command_list.specs.Report.{controller_of, list_reply, listing, listing_of, listing_text, query_of}
-use Rattle.np_command_list.specs.RowOrder.{ComesBefore}
-use Rattle.np_fold.specs.Workloads.{folding_of, number_of}
-use Rattle.np_model.specs.Lawful.{IsLawful}
-use Rattle.np_report.specs.Forms.{report_text}
-use Rattle.np_report.specs.Keeps.{keeps}
-use Rattle.np_report.specs.RowText.{names_of}
-use Rattle.np_report.specs.TableText.{list_text, shown_rows, texts_of}
+use Rattle.np_fold.specs.Prelude.{folding_of, number_of}
+use Rattle.np_model.specs.Prelude.{IsLawful}
+use Rattle.np_report.specs.Prelude.{keeps, list_text, names_of, report_text, shown_rows, texts_of}
 use Rattle.np_report.specs.declared.query.Query.TheVariants as query
 use Rattle.np_routes.proofs.ClusterLemmas.{allows_in-workloads, rows_between-cluster, rows_from_controller-kept, rows_of_address-cluster, workload-end}
 use Rattle.np_routes.proofs.ReachedLemmas.{number-workload, reaches-allows}
-use Rattle.np_routes.specs.ClusterTable.{cluster_rows, cluster_table, rows_from_controller}
-use Rattle.np_routes.specs.Controllers.{ingress_allows, ingress_reaches, is_controller, sender_of}
+use Rattle.np_routes.specs.Prelude.{cluster_rows, cluster_table, ingress_allows, ingress_reaches, is_controller, rows_from_controller, sender_of}
 use Rattle.np_table.proofs.AddressRowLemmas.{one_row-pods}
 use Rattle.np_table.proofs.RowLemmas.{rows_between-kept, rows_of_address-kept}
 use Rattle.np_table.proofs.SaidLemmas.{allows_in-pods}
-use Rattle.np_table.specs.Rows.{all_rows, key_of}
-use Rattle.np_table.specs.Said.{allows_in, is_address, is_of_address, is_workload, rows_between, rows_of_address}
-use Rattle.np_table.specs.Table.{Table, table_of}
-use Rattle.np_kinds.specs.Between.{source_pod}
+use Rattle.np_table.specs.Prelude.{Table, all_rows, allows_in, is_address, is_of_address, is_workload, key_of, rows_between, rows_of_address, table_of}
+use Rattle.np_kinds.specs.Prelude.{source_pod}
 
 -- the rows of an estate that a query asks for
 abbrev rows_shown : EstateLists → Option ℕ → Query → List Row

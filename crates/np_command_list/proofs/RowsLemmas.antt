@@ -3,11 +3,8 @@ use Rattle.std.proofs.Common.{◌≡◌, ℕ, Bool, true, false, ◌||◌, if◌
 use Rattle.std.proofs.Math.Bool.{or-false, or-true}
 use Rattle.np_command.proofs.LeftLemmas.{HasLeft, HasLeft-last}
 use Rattle.np_report.proofs.ToComeLemmas.{rows_to_come-kept, rows_to_come-left_out, rows_to_come-none}
-use Rattle.np_report.specs.Forms.{Form}
-use Rattle.np_report.specs.Keeps.{keeps}
-use Rattle.np_report.specs.RowText.{row_text}
-use Rattle.np_report.specs.TableText.{rows_to_come}
-use Rattle.np_command_list.specs.Types.{Query, Report, Row}
+use Rattle.np_report.specs.Prelude.{Form, keeps, row_text, rows_to_come}
+use Rattle.np_command_list.specs.Prelude.{Query, Report, Row}
 
 -- the bytes of the next row, if it is asked for, stand before what is left then
 pub rows_to_come-next : (form : Form) (names : List (List ℕ)) (query : Query) (report : Report) (came : Bool) (row : Row) (rows : List Row) →

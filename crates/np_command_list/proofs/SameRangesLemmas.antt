@@ -3,19 +3,15 @@ use Rattle.std.proofs.Common.{◌≡◌, ◌≤◌, ◌+◌, ◌-◌, inl, inr, 
 use Rattle.std.proofs.lemmas.Bool.{and_from, and_parts, cases_lt, false≢true, le-leb, leb-true}
 use Rattle.std.proofs.Math.Bool.{and-true}
 use Rattle.np_routes.proofs.ClusterLemmas.{workload-end}
-use Rattle.np_command_list.specs.Types.{AddressSpan, Controller, Direction, Egress, EstateLists, Family, Four, Ingress, PortSpot, Query, Range, Row, RowEnd, RowKey, Six, Span, Work}
+use Rattle.np_command_list.specs.Prelude.{AddressSpan, Controller, Direction, Egress, EstateLists, Family, Four, Ingress, IsAddressRow, IsPodOf, IsRowOf, PortSpot, Query, Range, Row, RowEnd, RowKey, SayWhatPasses, Six, Span, Work}
 use Rattle.np_base.specs.Ranges.{is_within}
-use Rattle.np_conns.specs.Conns.{has_spot, is_spot}
-use Rattle.np_rules.specs.model.Ends.{pod}
-use Rattle.np_rules.specs.model.Verdict.{pod_at}
+use Rattle.np_conns.specs.Prelude.{has_spot, is_spot}
+use Rattle.np_rules.specs.Prelude.{pod, pod_at}
 use Rattle.np_command_list.proofs.OneListLemmas.{AreToldAlike, from-kept, has-cases, has-head, kept, nothing-has}
 use Rattle.np_command_list.proofs.SameRowsLemmas.{key-from, row-of}
-use Rattle.np_command_list.specs.EachRow.{IsAddressRow, IsPodOf, IsRowOf}
-use Rattle.np_command_list.specs.Promise.{SayWhatPasses}
-use Rattle.np_report.specs.Keeps.{keeps}
-use Rattle.np_table.specs.Rows.{key_of}
-use Rattle.np_table.specs.Said.{IsInFamily, OneRowSays, is_address, is_of_address, is_workload, rows_of_address, span_has}
-use Rattle.np_kinds.specs.Between.{with_address}
+use Rattle.np_report.specs.Prelude.{keeps}
+use Rattle.np_table.specs.Prelude.{IsInFamily, OneRowSays, is_address, is_of_address, is_workload, key_of, rows_of_address, span_has}
+use Rattle.np_kinds.specs.Prelude.{with_address}
 use Rattle.np_table.specs.declared.rows.AddressSpan.TheVariants as span
 
 -- ---- spans

@@ -3,21 +3,18 @@ use Rattle.std.proofs.Common.{◌≡◌, ◌≢◌, ℕ, List, [], ◌∷◌, Bo
 use Rattle.std.proofs.lemmas.Bool.{and_from, and_parts, false≢true}
 use Rattle.std.proofs.lemmas.List.Elements.{All-contains}
 use Rattle.std.specs.Cmp.{both_ways}
-use Rattle.np_command_list.specs.Types.{Controller, EstateLists, Family, Four, Pod, PortSpot, Query, Row, RowEnd, RowKey, Six, Work}
+use Rattle.np_command_list.specs.Prelude.{AgreeInFamilies, Controller, EstateLists, Family, Four, IsIngressRow, IsPairRow, IsPodOf, IsRowOf, Pod, PortSpot, Query, Row, RowEnd, RowKey, SayWhatPasses, Six, Work}
 use Rattle.np_model.proofs.FamilyLemmas.{same_family-itself}
-use Rattle.np_conns.specs.Conns.{has_spot, is_spot}
-use Rattle.np_fold.specs.Workloads.{number_of}
-use Rattle.np_model.specs.Families.{families_of, same_family}
+use Rattle.np_conns.specs.Prelude.{has_spot, is_spot}
+use Rattle.np_fold.specs.Prelude.{number_of}
+use Rattle.np_model.specs.Prelude.{families_of, same_family}
 use Rattle.np_command_list.proofs.OneListLemmas.{AreToldAlike, any-from, any-to, from-kept, kept, has-head, one-of_rank, told-rank}
 use Rattle.np_command_list.proofs.RowPartLemmas.{Agree, agree-one, families-cases}
-use Rattle.np_command_list.specs.EachRow.{AgreeInFamilies, IsIngressRow, IsPairRow, IsPodOf, IsRowOf}
-use Rattle.np_command_list.specs.Promise.{SayWhatPasses}
-use Rattle.np_report.specs.Keeps.{keeps}
-use Rattle.np_routes.specs.ClusterTable.{ingress_key, is_from_controller, is_ingress_controller, rows_from_controller}
+use Rattle.np_report.specs.Prelude.{keeps}
+use Rattle.np_routes.specs.Prelude.{ingress_key, is_from_controller, is_ingress_controller, rows_from_controller}
 use Rattle.np_routes.proofs.ClusterLemmas.{controller-end, workload-end}
-use Rattle.np_table.specs.Rows.{pair_key}
-use Rattle.np_table.specs.Said.{allows_in, is_between, is_workload, rows_between, says, speaks_of}
-use Rattle.np_kinds.specs.Between.{between_pods}
+use Rattle.np_table.specs.Prelude.{allows_in, is_between, is_workload, pair_key, rows_between, says, speaks_of}
+use Rattle.np_kinds.specs.Prelude.{between_pods}
 
 -- ---- small facts
 

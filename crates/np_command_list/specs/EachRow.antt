@@ -1,13 +1,12 @@
 -- What each row of a list is of.
 use Rattle.std.specs.Prelude.{◌≡◌, ◌≢◌, ◌<◌, ◌≤◌, ◌+◌, ◌↔◌, ℕ, true, length, Contains}
 use Rattle.np_command_list.specs.Types.{AddressSpan, Controller, Direction, Egress, EstateLists, Family, Four, Ingress, PortSpot, Range, Row, RowEnd, Six, Span, Work}
-use Rattle.np_conns.specs.Conns.{Conns, has_spot, is_spot}
-use Rattle.np_fold.specs.Workloads.{number_of}
-use Rattle.np_model.specs.Families.{families_of}
-use Rattle.np_rules.specs.model.Ends.{pod}
-use Rattle.np_rules.specs.model.Verdict.{pod_at}
-use Rattle.np_table.specs.Said.{AllowSamePorts, IsInFamily, IsUnmarked}
-use Rattle.np_kinds.specs.Between.{between_pods, with_address}
+use Rattle.np_conns.specs.Prelude.{Conns, has_spot, is_spot}
+use Rattle.np_fold.specs.Prelude.{number_of}
+use Rattle.np_model.specs.Prelude.{families_of}
+use Rattle.np_rules.specs.Prelude.{pod, pod_at}
+use Rattle.np_table.specs.Prelude.{AllowSamePorts, IsInFamily, IsUnmarked}
+use Rattle.np_kinds.specs.Prelude.{between_pods, with_address}
 use Rattle.np_table.specs.declared.rows.AddressSpan.TheVariants as span
 
 -- a pod, by its place, is of the workload of a number

@@ -1,4 +1,5 @@
 pub mod EachRow
+pub mod Prelude
 pub mod Promise
 pub mod Report
 pub mod RowOrder

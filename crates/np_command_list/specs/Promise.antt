@@ -1,25 +1,18 @@
 -- What a report of `list` says of the bytes of its inputs: the theorem of the program.
 use Rattle.std.specs.Prelude.{◌≡◌, ◌≢◌, ◌<◌, ◌⊎◌, ℕ, List, length, slice_get, All, AllPairs, Contains, true, ◌&&◌, not, Option, Some, None, Ok}
 use Rattle.np_command_list.specs.Types.{AddressSpan, Direction, EstateLists, Family, Fault, FocusSide, Format, PortSpot, Query, Report, Row, Span, UnknownEnd}
-use Rattle.np_command.specs.Inputs.{lists_of}
-use Rattle.np_command.specs.Sinks.{SinkTrace, TookWhole}
+use Rattle.np_command.specs.Prelude.{SinkTrace, TookWhole, lists_of}
 use Rattle.np_command_list.specs.EachRow.{IsRowOf}
 use Rattle.np_command_list.specs.RowOrder.{ComesBefore}
-use Rattle.np_conns.specs.Conns.{is_spot}
-use Rattle.np_fold.specs.Workloads.{folding_of, number_of}
-use Rattle.np_model.specs.Families.{families_of}
-use Rattle.np_report.specs.Forms.{report_text}
-use Rattle.np_report.specs.Keeps.{keeps}
-use Rattle.np_report.specs.RowText.{names_of}
-use Rattle.np_report.specs.TableText.{texts_of}
+use Rattle.np_conns.specs.Prelude.{is_spot}
+use Rattle.np_fold.specs.Prelude.{folding_of, number_of}
+use Rattle.np_model.specs.Prelude.{families_of}
+use Rattle.np_report.specs.Prelude.{keeps, names_of, report_text, texts_of}
 use Rattle.np_report.specs.declared.query.Query.TheVariants as query
-use Rattle.np_routes.specs.ClusterTable.{ingress_key, rows_from_controller}
-use Rattle.np_routes.specs.Controllers.{ingress_reaches, is_controller, sender_of}
-use Rattle.np_rules.specs.model.Ends.{pod}
-use Rattle.np_rules.specs.model.Verdict.{pod_at}
-use Rattle.np_table.specs.Rows.{key_of, pair_key}
-use Rattle.np_table.specs.Said.{IsInFamily, OneRowSays, allows_in, rows_between}
-use Rattle.np_kinds.specs.Between.{between_pods, with_address}
+use Rattle.np_routes.specs.Prelude.{ingress_key, ingress_reaches, is_controller, rows_from_controller, sender_of}
+use Rattle.np_rules.specs.Prelude.{pod, pod_at}
+use Rattle.np_table.specs.Prelude.{IsInFamily, OneRowSays, allows_in, key_of, pair_key, rows_between}
+use Rattle.np_kinds.specs.Prelude.{between_pods, with_address}
 
 -- ---- what is asked for
 

@@ -1,11 +1,11 @@
 -- `list`: the rows of the table that are asked for.
 use Rattle.std.specs.Prelude.{ℕ, List, Option, Some, None, Result, Ok, Err}
-use Rattle.np_command.specs.Ends.{or_unknown}
+use Rattle.np_command.specs.Prelude.{or_unknown}
 use Rattle.np_command_list.specs.Types.{All, EstateLists, Fault, FocusSide, Format, Listing, Query, Report}
-use Rattle.np_fold.specs.Workloads.{folding_of, number_named}
-use Rattle.np_report.specs.TableText.{list_text}
+use Rattle.np_fold.specs.Prelude.{folding_of, number_named}
+use Rattle.np_report.specs.Prelude.{list_text}
 use Rattle.np_report.specs.declared.query.Query.TheVariants.{Work}
-use Rattle.np_routes.specs.ClusterTable.{cluster_table}
+use Rattle.np_routes.specs.Prelude.{cluster_table}
 
 -- Who sends what comes through ingresses: the workload of that name, or a controller that is not known.
 unfoldable pub controller_of : Option (List ℕ) → EstateLists → Result (Option ℕ) Fault

@@ -1,9 +1,9 @@
 //! What follows from the promise. Each law is the contract of a call that does nothing.
 ghost use Rattle.std.specs.Prelude.{◌≡◌, ℕ, List, Option};
 ghost use Rattle.np_args.specs.declared.report.Report.{Report};
-ghost use Rattle.np_command_list.specs.Promise.{SayWhatPasses};
+ghost use Rattle.np_command_list.specs.Prelude.{SayWhatPasses};
 ghost use Rattle.np_model.specs.declared.lists.EstateLists.{EstateLists};
-ghost use Rattle.np_report.specs.TableText.{texts_of};
+ghost use Rattle.np_report.specs.Prelude.{texts_of};
 ghost use Rattle.np_report.specs.declared.query.Query.{Query};
 ghost use Rattle.np_table.specs.declared.rows.Row.{Row};
 

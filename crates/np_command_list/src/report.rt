@@ -1,16 +1,11 @@
 //! `list`: the rows of the table that are asked for.
 ghost use Rattle.std.specs.Prelude.{◌≡◌, ◌≤◌, ◌+◌, [], IfOk, IfSome, false, if◌then◌else◌};
-ghost use Rattle.np_command.specs.TableSteps.{list_steps};
-ghost use Rattle.np_command.specs.Inputs.{Gives};
-ghost use Rattle.np_command.specs.Sinks.{sunk};
-ghost use Rattle.np_command.specs.Written.{Writes};
+ghost use Rattle.np_command.specs.Prelude.{Gives, Writes, list_steps, sunk};
 ghost use Rattle.np_command_list.specs.Report as spec;
-ghost use Rattle.np_fold.specs.Workloads.{folding_of};
-ghost use Rattle.np_report.specs.Keeps.{keeps};
-ghost use Rattle.np_report.specs.RowText.{names_of, row_text};
-ghost use Rattle.np_report.specs.TableText.{list_text, rows_to_come};
-ghost use Rattle.np_routes.specs.ClusterTable.{cluster_rows, cluster_table};
-ghost use Rattle.np_kinds.specs.Between.{IsWorkload};
+ghost use Rattle.np_fold.specs.Prelude.{folding_of};
+ghost use Rattle.np_report.specs.Prelude.{keeps, list_text, names_of, row_text, rows_to_come};
+ghost use Rattle.np_routes.specs.Prelude.{cluster_rows, cluster_table};
+ghost use Rattle.np_kinds.specs.Prelude.{IsWorkload};
 
 use np_args::Format;
 use np_base::{NoMemory, Steps, Text};

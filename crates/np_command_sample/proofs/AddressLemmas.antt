@@ -3,16 +3,10 @@ use Rattle.std.proofs.Common.{◌≡◌, ℕ, List, [], ◌∷◌, ◌++◌, Boo
 use Rattle.std.specs.List.{list_any, range_with_len}
 use Rattle.np_addr.specs.declared.address.Address.TheVariants as at
 use Rattle.np_addr.specs.declared.address.Family.TheVariants.{Six}
-use Rattle.np_command_sample.specs.Types.{Direction, Egress, Ingress, PortSpot}
-use Rattle.np_rules.specs.model.Ends.{Contact, End, PodEnd, address, pod}
-use Rattle.np_rules.specs.model.NetTier.{is_isolated, permits, placed_net_matches}
-use Rattle.np_rules.specs.model.Places.{net_places, net_places_of}
-use Rattle.np_rules.specs.model.Selection.{net_selects}
-use Rattle.np_rules.specs.model.Sides.{side_allows}
-use Rattle.np_rules.specs.model.Verdict.{allows}
-use Rattle.np_kinds.specs.Between.{with_address}
-use Rattle.np_command_sample.specs.Estate.{estate_net_policy, sample_estate}
-use Rattle.np_sample.specs.Objects.{namespace_count}
+use Rattle.np_command_sample.specs.Prelude.{Direction, Egress, Ingress, PortSpot, estate_net_policy, sample_estate}
+use Rattle.np_rules.specs.Prelude.{Contact, End, PodEnd, address, allows, is_isolated, net_places, net_places_of, net_selects, permits, placed_net_matches, pod, side_allows}
+use Rattle.np_kinds.specs.Prelude.{with_address}
+use Rattle.np_sample.specs.Prelude.{namespace_count}
 
 -- what passes between a far IPv6 address and some end
 abbrev six_contact : ℕ → End → PortSpot → Contact

@@ -9,9 +9,9 @@ use Rattle.std.specs.Str.{bytes_eq}
 use Rattle.np_reading.proofs.LawfulLists.{AllLater}
 use Rattle.np_base.proofs.Each.{All-append}
 use Rattle.np_base.proofs.Bools.{not_both}
-use Rattle.np_command_sample.specs.Types.{Item, ObjectName}
-use Rattle.np_owners.specs.Names.{first_repeat, is_named, name_of, place_of, repeat_after, repeated}
-use Rattle.np_sample.specs.Objects.{namespace_count}
+use Rattle.np_command_sample.specs.Prelude.{Item, ObjectName}
+use Rattle.np_owners.specs.Prelude.{first_repeat, is_named, name_of, place_of, repeat_after, repeated}
+use Rattle.np_sample.specs.Prelude.{namespace_count}
 use Rattle.np_command_sample.proofs.LaterLemmas.{later-four}
 use Rattle.np_command_sample.proofs.Items.{admin_policy_item, namespace_item, net_policy_item, pod_item, sample_items}
 

@@ -1,7 +1,7 @@
 -- The rows of a table, as they are counted. For `summary` and `tally_of`.
 use Rattle.std.proofs.Common.{◌≡◌, ℕ, ◌+◌, ◌≤◌, List, [], ◌∷◌, ◌++◌, codes, length, arith, refl, ap, sym, ◌∙◌}
-use Rattle.np_command_sample.specs.Report.{count_line, count_lines, counted}
-use Rattle.np_report.specs.Tallied.{Counts, row_count, with_ends, with_row}
+use Rattle.np_command_sample.specs.Prelude.{count_line, count_lines, counted}
+use Rattle.np_report.specs.Prelude.{Counts, row_count, with_ends, with_row}
 use Rattle.np_table.specs.declared.rows.Row.{Row}
 use Rattle.np_table.specs.declared.rows.RowEnd.{RowEnd}
 use Rattle.np_table.specs.declared.rows.RowEnd.TheVariants.{Controller, Span, Work}

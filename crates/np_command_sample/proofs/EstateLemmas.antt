@@ -4,20 +4,14 @@ use Rattle.std.specs.List.{AllByRecursion, cons_option, filter_map, range_with_l
 use Rattle.std.specs.Option.{option_and_then, option_map_or, option_to_list}
 use Rattle.std.proofs.lemmas.List.Elements.{filter_map-append}
 use Rattle.np_base.proofs.Lists.{count-none}
-use Rattle.np_owners.specs.Chains.{places, up}
+use Rattle.np_owners.specs.Prelude.{first_in_cycle, makes_pod, name_of, owner_of, owner_place, place_in_namespace, place_of, places, up, ups}
 use Rattle.np_owners.proofs.Owned.{owns_itself-none}
-use Rattle.np_reading.specs.Ends.{listed_pod, pod_at_item, pods_from, context}
-use Rattle.np_reading.specs.LeftOut.{count_left_out, is_for, is_left_out, left_out}
-use Rattle.np_reading.specs.Namespaces.{labels_in, listed_labels, name_label, namespace_name}
-use Rattle.np_reading.specs.TopOwners.{named_or_itself}
-use Rattle.np_command_sample.specs.Types.{Item, ObjectName, Pod}
+use Rattle.np_reading.specs.Prelude.{context, count_left_out, is_for, is_left_out, labels_in, left_out, listed_labels, listed_pod, name_label, named_or_itself, namespace_name, pod_at_item, pods_from}
+use Rattle.np_command_sample.specs.Prelude.{Item, ObjectName, Pod}
 use Rattle.np_reading.proofs.TopLemmas.{top_owner-pod}
 use Rattle.np_items.specs.declared.item.Item.TheVariants as item
 use Rattle.np_objects.specs.declared.object.Object.TheVariants as object
-use Rattle.np_owners.specs.MadePods.{makes_pod}
-use Rattle.np_owners.specs.Names.{name_of, place_of}
-use Rattle.np_owners.specs.Owners.{first_in_cycle, owner_of, owner_place, place_in_namespace, ups}
-use Rattle.np_sample.specs.Objects.{namespace_count}
+use Rattle.np_sample.specs.Prelude.{namespace_count}
 use Rattle.np_command_sample.proofs.Items.{admin_policy_item, namespace_item, net_policy_item, pod_item, pod_read, sample_items}
 
 -- ---- what a function gives of the items

@@ -1,22 +1,16 @@
 -- What each object of the sample is read as. For ReadingLemmas.
 use Rattle.std.proofs.Common.{◌≡◌, ℕ, ◌%◌, ◌^◌, ◌<◌, codes, false, None, Ok, decimal, refl, arith}
-use Rattle.np_items.specs.Items.{item_of, must_be_no_list}
-use Rattle.np_json.specs.Meta.{namespaced_name, type_meta}
-use Rattle.np_json.specs.Scalars.{protocol_name, word}
-use Rattle.np_json.specs.Shapes.{listed, must_be_object, optional, refuse_if, required, under}
+use Rattle.np_items.specs.Prelude.{item_of, must_be_no_list}
+use Rattle.np_json.specs.Prelude.{listed, must_be_object, namespaced_name, optional, protocol_name, refuse_if, required, type_meta, under, word}
 use Rattle.np_json.proofs.ReadLemmas.{name-read, port-read}
-use Rattle.np_objects.specs.Labels.{label_map}
+use Rattle.np_objects.specs.Prelude.{container, container_port, label_map, object_by, object_of, pod_metadata, pod_spec, port_name}
 use Rattle.np_objects.specs.Namespaces as namespaces
-use Rattle.np_objects.specs.Objects.{object_by, object_of}
-use Rattle.np_objects.specs.PodSpecs.{container, pod_spec}
-use Rattle.np_objects.specs.Pods.{pod_metadata}
 use Rattle.np_objects.specs.Pods as pods
-use Rattle.np_objects.specs.Ports.{container_port, port_name}
-use Rattle.np_policies.specs.Policies.{policy_by, policy_of}
+use Rattle.np_policies.specs.Prelude.{policy_by, policy_of}
 use Rattle.np_sample.specs.Objects as spec
 use Rattle.np_command_sample.proofs.ShapeLemmas.{labels-of, namespace-of}
 use Rattle.np_command_sample.proofs.WordLemmas.{is_name-numbered, is_word-numbered}
-use Rattle.np_command_sample.specs.Estate.{one_label, ports_of}
+use Rattle.np_command_sample.specs.Prelude.{one_label, ports_of}
 use Rattle.np_command_sample.proofs.Items.{namespace_item, pod_item}
 
 pub item_of-namespace : (number j : ℕ) → j < spec.namespace_count → item_of number (spec.namespace j) ≡ Ok (namespace_item j)

@@ -1,12 +1,11 @@
 -- The items of the sample. For ApartLemmas, EstateLemmas and 4 more.
 use Rattle.std.proofs.Common.{ℕ, List, [], codes, false, None}
-use Rattle.np_command_sample.specs.Types.{Item}
+use Rattle.np_command_sample.specs.Prelude.{Item, estate_admin_policy, estate_net_policy, one_label, ports_of}
 use Rattle.np_items.specs.declared.item.Item.TheVariants as item
 use Rattle.np_objects.specs.declared.object.Object.TheVariants as object
 use Rattle.np_objects.specs.declared.pod_item.PodItem.{PodItem}
 use Rattle.np_policies.specs.declared.policy.Policy.TheVariants as policy
-use Rattle.np_command_sample.specs.Estate.{estate_admin_policy, estate_net_policy, one_label, ports_of}
-use Rattle.np_sample.specs.Objects.{app_of, namespace_name, namespace_of, pod_name}
+use Rattle.np_sample.specs.Prelude.{app_of, namespace_name, namespace_of, pod_name}
 use Rattle.np_sample.proofs.ListLemmas.{four_kinds}
 
 abbrev pub pod_read : ℕ → PodItem

@@ -1,21 +1,14 @@
 -- What each policy of the sample is read as. For ReadingLemmas.
 use Rattle.std.proofs.Common.{◌≡◌, ℕ, Some, Ok, refl}
 use Rattle.std.specs.Fmt.{digits}
-use Rattle.np_addr.specs.AddressGrammar.{address_of, cidr_of, length_of}
-use Rattle.np_addr.specs.Ipv4Grammar.{ipv4_of, part_of, parts_of}
-use Rattle.np_addr.specs.Numeral.{numeral_of}
-use Rattle.np_items.specs.Items.{item_of, must_be_no_list}
-use Rattle.np_json.specs.Meta.{namespace, namespaced_name, type_meta}
-use Rattle.np_json.specs.Scalars.{labels, name, port, protocol_name}
-use Rattle.np_json.specs.Shapes.{listed, must_be_object, optional, refuse_if, refuse_member_if, required, under}
+use Rattle.np_addr.specs.Prelude.{address_of, cidr_of, ipv4_of, length_of, numeral_of, part_of, parts_of}
+use Rattle.np_items.specs.Prelude.{item_of, must_be_no_list}
+use Rattle.np_json.specs.Prelude.{labels, listed, must_be_object, name, namespace, namespaced_name, optional, port, protocol_name, refuse_if, refuse_member_if, required, type_meta, under}
 use Rattle.np_policies.specs.AdminPolicies as admins
-use Rattle.np_policies.specs.Blocks.{cidr, ip_block}
+use Rattle.np_policies.specs.Prelude.{cidr, end_port, ip_block, net_port, policy_by, policy_of, port_name, port_value, protocol, selector}
 use Rattle.np_policies.specs.NetworkPolicies as nets
-use Rattle.np_policies.specs.Policies.{policy_by, policy_of}
-use Rattle.np_policies.specs.Ports.{end_port, net_port, port_name, port_value, protocol}
-use Rattle.np_policies.specs.Selectors.{selector}
 use Rattle.np_sample.specs.Objects as spec
-use Rattle.np_command_sample.specs.Estate.{block_of}
+use Rattle.np_command_sample.specs.Prelude.{block_of}
 use Rattle.np_command_sample.proofs.Items.{admin_policy_item, net_policy_item}
 
 pub item_of-admin_policy : (number : ℕ) → item_of number spec.admin_policy ≡ Ok admin_policy_item

@@ -2,18 +2,15 @@
 use Rattle.std.proofs.Common.{◌≡◌, ℕ, ◌≤◌, [], ◌∷◌, true, Result, Ok, arith, refl, subst}
 use Rattle.std.specs.Prelude.{nat_le}
 use Rattle.std.proofs.lemmas.Bool.{le-leb}
-use Rattle.np_command.specs.Inputs.{lists_of, small_estate}
+use Rattle.np_command.specs.Prelude.{SinkTrace, TookWhole, lists_of, small_estate}
 use Rattle.np_command.specs.declared.fault.Fault.{Fault}
 use Rattle.np_command_sample.proofs.SampleLemmas.{estate_of-sample}
 use Rattle.np_command_sample.proofs.WorkloadLemmas.{workload_count-sample}
-use Rattle.np_command_sample.specs.Estate.{sample_estate}
-use Rattle.np_sample.specs.Sample.{sample_text}
+use Rattle.np_command_sample.specs.Prelude.{CountsAll, sample_estate, sample_summary}
+use Rattle.np_sample.specs.Prelude.{sample_text}
 use Rattle.np_model.specs.declared.lists.EstateLists.{EstateLists}
-use Rattle.np_fold.specs.Workloads.{workload_count}
+use Rattle.np_fold.specs.Prelude.{workload_count}
 use Rattle.np_fold.specs.declared.workloads.TheConstants.{MOST_WORKLOADS}
-use Rattle.np_command.specs.Sinks.{SinkTrace, TookWhole}
-use Rattle.np_command_sample.specs.Promise.{CountsAll}
-use Rattle.np_command_sample.specs.Report.{sample_summary}
 
 -- what is read of the text of a sample
 pub lists_of-sample : (n : ℕ) → n ≤ 1000 → lists_of (sample_text n ∷ []) ≡ Ok (sample_estate n)

@@ -3,12 +3,10 @@ use Rattle.std.proofs.Common.{◌≡◌, ℕ, ◌+◌, ◌≤◌, List, [], ◌�
 use Rattle.std.proofs.lemmas.List.FromFn.{length-map-range_with_len}
 use Rattle.std.specs.List.{AllByRecursion, AllZip}
 use Rattle.serde_json.specs.Data.{Data}
-use Rattle.np_items.specs.Inputs.{input_values, json_of, items_by, items_in, values}
-use Rattle.np_items.specs.Items.{each_item, item_of, items_of, must_be_few}
-use Rattle.np_command_sample.specs.Types.{Item}
+use Rattle.np_items.specs.Prelude.{each_item, input_values, item_of, items_by, items_in, items_of, json_of, must_be_few, values}
+use Rattle.np_command_sample.specs.Prelude.{Item}
 use Rattle.np_items.proofs.InputLemmas.{values-items_of}
-use Rattle.np_sample.specs.Objects.{admin_policy, namespace, net_policy, pod}
-use Rattle.np_sample.specs.Sample.{list_of, sample_objects, sample_text, sample_value}
+use Rattle.np_sample.specs.Prelude.{admin_policy, list_of, namespace, net_policy, pod, sample_objects, sample_text, sample_value}
 use Rattle.np_command_sample.proofs.ItemLemmas.{item_of-namespace, item_of-pod}
 use Rattle.np_sample.proofs.ListLemmas.{all-four}
 use Rattle.np_command_sample.proofs.LaterLemmas.{zip-four}

@@ -2,25 +2,18 @@
 use Rattle.std.proofs.Common.{◌≡◌, ℕ, ◌+◌, ◌≤◌, List, [], ◌∷◌, ◌++◌, map, fold, false, Option, Some, None, Ok, refl, ap, ◌∙◌, append-nil}
 use Rattle.std.specs.Fmt.{digits}
 use Rattle.std.specs.List.{AllByRecursion, filter_map, range_with_len}
-use Rattle.np_reading.specs.LeftOut.{list_networks}
-use Rattle.np_reading.specs.Listed.{admin_policies_of, admin_policy, base_policy, baseline_of, first_equal, first_of, ingress, ingresses_from, ingresses_of, net_policies_of, net_policy, ranks_of}
-use Rattle.np_reading.specs.Listed.{service, services_of, with_admin, with_net, with_rank}
-use Rattle.np_reading.specs.Ends.{pods_of}
-use Rattle.np_reading.specs.Namespaces.{labels_in}
-use Rattle.np_reading.specs.Reading.{estate_of, estate_of_items, notes_of}
+use Rattle.np_reading.specs.Prelude.{admin_policies_of, admin_policy, base_policy, baseline_of, estate_of, estate_of_items, first_equal, first_of, ingress, ingresses_from, ingresses_of, labels_in, list_networks, net_policies_of, net_policy, notes_of, pods_of, ranks_of, service, services_of, with_admin, with_net, with_rank}
 use Rattle.np_reading.proofs.EstateLemmas.{estate_of-read, same-notes}
 use Rattle.np_model.specs.declared.notes.Notes.{Notes}
 use Rattle.np_model.specs.declared.placed_ingress.PlacedIngress.{PlacedIngress}
-use Rattle.np_command_sample.specs.Types.{AdminPolicy, Item, NetPolicy, Pod}
+use Rattle.np_command_sample.specs.Prelude.{AdminPolicy, Item, NetPolicy, Pod, estate_admin_policy, estate_net_policy, estate_pod, sample_estate}
 use Rattle.np_model.specs.declared.service.ServiceItem.{ServiceItem}
-use Rattle.np_owners.specs.Owners.{owner_of}
+use Rattle.np_owners.specs.Prelude.{owner_of}
 use Rattle.np_model.specs.declared.admin_policy.BasePolicy.{BasePolicy}
-use Rattle.np_sample.specs.Objects.{namespace_count}
-use Rattle.np_sample.specs.Sample.{sample_text}
+use Rattle.np_sample.specs.Prelude.{namespace_count, sample_text}
 use Rattle.np_command_sample.proofs.ApartLemmas.{first_repeat-sample}
 use Rattle.np_command_sample.proofs.EstateLemmas.{count_left_out-none, first_in_cycle-none, gives_each, gives_none, gives_parts, gives_pod, IsKept, IsLone, pod_is_lone, pods_from-lone}
 use Rattle.np_command_sample.proofs.ReadingLemmas.{all-items, items_of-sample}
-use Rattle.np_command_sample.specs.Estate.{estate_admin_policy, estate_net_policy, estate_pod, sample_estate}
 use Rattle.np_command_sample.proofs.Items.{pod_item, sample_items}
 
 -- ---- what the items give

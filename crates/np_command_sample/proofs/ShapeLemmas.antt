@@ -1,10 +1,8 @@
 -- What shapes read of texts and numbers that are as they ask. For ItemLemmas.
 use Rattle.std.proofs.Common.{◌≡◌, ◌≢◌, ℕ, suc, List, [], ◌∷◌, length, true, Ok, refl, arith, ne_eqb}
 use Rattle.serde_json.specs.Data.{object, string, member, no_members}
-use Rattle.np_json.specs.Meta.{namespace}
-use Rattle.np_model.specs.Words.{is_label, is_name}
-use Rattle.np_json.specs.Scalars.{labels}
-use Rattle.np_json.specs.Shapes.{refuse_if}
+use Rattle.np_json.specs.Prelude.{labels, namespace, refuse_if}
+use Rattle.np_model.specs.Prelude.{is_label, is_name}
 
 pub namespace-of : (c : ℕ) (s : List ℕ) → is_name (c ∷ s) ≡ true → namespace (string (c ∷ s)) ≡ Ok (c ∷ s)
 unfolding namespace refuse_if

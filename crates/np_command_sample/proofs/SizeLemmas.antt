@@ -8,8 +8,7 @@ use Rattle.json.specs.Token.{Token}
 use Rattle.serde_json.specs.Data.{Data, null, boolean, number, string, array, object, Items, no_items, item, Members, no_members, member}
 use Rattle.serde_json.specs.View.{items_of}
 use Rattle.serde_json.specs.Written.{comma_if, compact_text, items_text, members_text, number_text}
-use Rattle.np_sample.specs.Objects.{admin_policy, namespace, namespace_count, net_policy, next_of, pod, port_of}
-use Rattle.np_sample.specs.Sample.{sample_objects, sample_text, sample_value}
+use Rattle.np_sample.specs.Prelude.{admin_policy, namespace, namespace_count, net_policy, next_of, pod, port_of, sample_objects, sample_text, sample_value}
 use Rattle.np_sample.proofs.ObjectLemmas.{all-objects}
 use Rattle.np_command_sample.proofs.ReadingLemmas.{length-objects}
 use Rattle.np_command_sample.proofs.RowCountLemmas.{length-flat_map-le}

@@ -9,10 +9,9 @@ use Rattle.serde_json.specs.Data.{Data}
 use Rattle.serde_json.specs.Read.{of_json}
 use Rattle.serde_json.specs.Written.{compact_text, outline}
 use Rattle.serde_json.proofs.Numbers.{number_of-decimal}
-use Rattle.np_items.specs.Inputs.{json_of}
+use Rattle.np_items.specs.Prelude.{json_of}
 use Rattle.np_items.proofs.InputLemmas.{json_of-read}
-use Rattle.np_sample.specs.Objects.{admin_policy, namespace, namespace_count, net_policy, next_of, pod, port_of}
-use Rattle.np_sample.specs.Sample.{sample_objects, sample_text, sample_value}
+use Rattle.np_sample.specs.Prelude.{admin_policy, namespace, namespace_count, net_policy, next_of, pod, port_of, sample_objects, sample_text, sample_value}
 use Rattle.np_sample.proofs.ObjectLemmas.{all-objects}
 use Rattle.np_command_sample.proofs.PlainLemmas.{all_given, all_plain_items, all_shallow, is_plain, IsGiven, IsPlain, IsUtf8-compact_text, read-compact_text}
 

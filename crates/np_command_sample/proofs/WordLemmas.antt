@@ -3,7 +3,7 @@ use Rattle.std.proofs.Common.{◌≡◌, ◌≢◌, ℕ, suc, length, ◌^◌, �
 use Rattle.std.proofs.lemmas.Fmt.{decimal_is_IsNumeral}
 use Rattle.std.specs.Str.Parse.{AllDigits}
 use Rattle.np_base.proofs.Texts.{digit_range}
-use Rattle.np_model.specs.Words.{has_slash, is_name, is_word, is_word_byte}
+use Rattle.np_model.specs.Prelude.{has_slash, is_name, is_word, is_word_byte}
 use Rattle.np_model.proofs.WordLemmas.{decimal-word}
 
 no_slash_in_digits : (ds : List ℕ) → AllDigits 10 ds → has_slash ds ≡ false

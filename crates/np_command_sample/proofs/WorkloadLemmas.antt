@@ -2,9 +2,8 @@
 use Rattle.std.proofs.Common.{ℕ, ◌≤◌, length, arith}
 use Rattle.std.proofs.lemmas.List.FromFn.{length-map-range_with_len}
 use Rattle.np_classes.proofs.Relations.{firsts-le-count}
-use Rattle.np_command_sample.specs.Types.{EstateLists}
-use Rattle.np_fold.specs.Workloads.{pods_alike, workload_count}
-use Rattle.np_command_sample.specs.Estate.{estate_pod, sample_estate}
+use Rattle.np_command_sample.specs.Prelude.{EstateLists, estate_pod, sample_estate}
+use Rattle.np_fold.specs.Prelude.{pods_alike, workload_count}
 
 -- at most as many as pods
 workload_count-le-pods : (lists : EstateLists) → workload_count lists ≤ length lists.pods

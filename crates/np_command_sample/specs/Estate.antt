@@ -5,18 +5,18 @@ use Rattle.np_addr.specs.declared.cidr.Cidr.{Cidr}
 use Rattle.np_addr.specs.declared.cidr.Cidr.TheVariants as cidr
 use Rattle.np_conns.specs.declared.proto.Proto.TheVariants.{Tcp}
 use Rattle.np_command_sample.specs.Types.{AdminPolicy, EstateLists, NetPolicy, Pod}
-use Rattle.np_labels.specs.Selectors.{label_requirement}
+use Rattle.np_labels.specs.Prelude.{label_requirement}
 use Rattle.np_labels.specs.declared.pair.Pair.{Pair}
 use Rattle.np_labels.specs.declared.selector.Selector.{Selector}
 use Rattle.np_model.specs.declared.named_port.NamedPort.{NamedPort}
-use Rattle.np_policies.specs.Selectors.{everything}
+use Rattle.np_policies.specs.Prelude.{everything}
 use Rattle.np_model.specs.declared.admin_policy.Action.TheVariants.{Deny}
 use Rattle.np_model.specs.declared.admin_policy.AdminPeer.TheVariants as admin_peer
 use Rattle.np_model.specs.declared.admin_policy.AdminRule.{AdminRule}
 use Rattle.np_model.specs.declared.network_policy.NetPeer.TheVariants as net_peer
 use Rattle.np_model.specs.declared.network_policy.NetPort.TheVariants as net_port
 use Rattle.np_model.specs.declared.network_policy.NetRule.{NetRule}
-use Rattle.np_sample.specs.Objects.{app_of, namespace_count, namespace_name, namespace_of, next_of, pod_name, port_of}
+use Rattle.np_sample.specs.Prelude.{app_of, namespace_count, namespace_name, namespace_of, next_of, pod_name, port_of}
 
 -- ---- parts
 

@@ -1,10 +1,9 @@
 -- What a report of `sample` says.
 use Rattle.std.specs.Prelude.{◌≡◌, ℕ, [], ◌∷◌, Ok}
-use Rattle.np_command.specs.Inputs.{lists_of}
-use Rattle.np_command.specs.Sinks.{SinkTrace, TookWhole}
+use Rattle.np_command.specs.Prelude.{SinkTrace, TookWhole, lists_of}
 use Rattle.np_command_sample.specs.Report.{sample_summary}
 use Rattle.np_command_sample.specs.Estate.{sample_estate}
-use Rattle.np_sample.specs.Sample.{sample_text}
+use Rattle.np_sample.specs.Prelude.{sample_text}
 
 -- What is read of the text of the sample of so many pods is its estate, and the sink took how many workloads that has, and how
 -- many rows its table.

@@ -1,9 +1,9 @@
 -- `sample`: how many rows the table of a sample has.
 use Rattle.std.specs.Prelude.{ℕ, ◌<◌, ◌^◌, List, [], ◌∷◌, ◌++◌, None, codes, decimal, length}
 use Rattle.np_model.specs.declared.lists.EstateLists.{EstateLists}
-use Rattle.np_fold.specs.Workloads.{folding_of}
-use Rattle.np_report.specs.Tallied.{Counts, no_rows, with_row}
-use Rattle.np_routes.specs.ClusterTable.{cluster_rows, cluster_table}
+use Rattle.np_fold.specs.Prelude.{folding_of}
+use Rattle.np_report.specs.Prelude.{Counts, no_rows, with_row}
+use Rattle.np_routes.specs.Prelude.{cluster_rows, cluster_table}
 use Rattle.np_table.specs.declared.rows.Row.{Row}
 
 -- rows, counted one after another

@@ -1,10 +1,10 @@
 //! What follows from the definition of a sample. Each law is the contract of a call that does nothing.
 ghost use Rattle.std.specs.Prelude.{◌≡◌, ◌<◌, ◌≤◌, ◌*◌, ◌^◌, ℕ, [], ◌∷◌, Ok, Option, length};
-ghost use Rattle.np_reading.specs.Reading.{estate_of};
-ghost use Rattle.np_fold.specs.Workloads.{workload_count};
-ghost use Rattle.np_routes.specs.ClusterTable.{cluster_rows, cluster_table};
-ghost use Rattle.np_command_sample.specs.Estate.{sample_estate};
-ghost use Rattle.np_sample.specs.Sample.{sample_text};
+ghost use Rattle.np_reading.specs.Prelude.{estate_of};
+ghost use Rattle.np_fold.specs.Prelude.{workload_count};
+ghost use Rattle.np_routes.specs.Prelude.{cluster_rows, cluster_table};
+ghost use Rattle.np_command_sample.specs.Prelude.{sample_estate};
+ghost use Rattle.np_sample.specs.Prelude.{sample_text};
 
 use np_fold::MOST_WORKLOADS;
 

@@ -1,8 +1,6 @@
 //! `sample`: how many rows the table of a sample has.
 ghost use Rattle.std.specs.Prelude.{◌≡◌, ◌≤◌, ◌+◌, IfOk, Ok, string_bytes};
-ghost use Rattle.np_command.specs.TableSteps.{list_steps};
-ghost use Rattle.np_command.specs.Prints.{Wrote};
-ghost use Rattle.np_command.specs.Sinks.{sunk};
+ghost use Rattle.np_command.specs.Prelude.{Wrote, list_steps, sunk};
 ghost use Rattle.np_command_sample.specs.Report as spec;
 
 use np_base::{NoMemory, Steps};

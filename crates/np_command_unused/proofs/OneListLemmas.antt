@@ -1,11 +1,10 @@
 -- Lists of rules that decide nothing are one list. For `one_list_of_rules_decides_nothing`.
 use Rattle.std.proofs.Common.{◌≡◌, ℕ, List, Contains, flat_map, ap, subst, ◌∙◌, arith}
 use Rattle.np_addr.proofs.SameLists.{same_elements_same_lists}
-use Rattle.np_command.specs.Sinks.{SinkTrace}
+use Rattle.np_command.specs.Prelude.{SinkTrace}
 use Rattle.np_command_unused.specs.Promise.{DecidesNothing, ListsUnused}
 use Rattle.np_command_unused.specs.Report.{rule_line}
-use Rattle.np_unused.specs.Order.{StandsBefore}
-use Rattle.np_unused.specs.Rules.{IsRuleOf}
+use Rattle.np_unused.specs.Prelude.{IsRuleOf, StandsBefore}
 use Rattle.np_unused.specs.declared.rule_ref.RuleRef.{RuleRef}
 use Rattle.np_model.specs.declared.lists.EstateLists.{EstateLists}
 

@@ -3,14 +3,12 @@ use Rattle.std.specs.Prelude.{All, Contains}
 use Rattle.std.proofs.lemmas.List.Elements.{All-contains_itself, All-weaker}
 use Rattle.np_model.specs.declared.lists.EstateLists.{EstateLists}
 use Rattle.np_unused.proofs.LawLemmas.{unused_is, decide_nothing}
-use Rattle.np_unused.specs.Rules.{IsRuleOf}
-use Rattle.np_unused.specs.Used.{unused_of}
+use Rattle.np_unused.specs.Prelude.{IsRuleOf, unused_of}
 use Rattle.std.proofs.Common.{◌≡◌, ℕ, List, Ok}
-use Rattle.np_command.specs.Inputs.{lists_of}
-use Rattle.np_command.specs.Sinks.{SinkTrace, TookWhole}
+use Rattle.np_command.specs.Prelude.{SinkTrace, TookWhole, lists_of}
 use Rattle.np_command_unused.specs.Promise.{ListsUnused}
 use Rattle.np_command_unused.specs.Report.{unused_text}
-use Rattle.np_model.specs.Lawful.{IsLawful}
+use Rattle.np_model.specs.Prelude.{IsLawful}
 use Rattle.np_unused.proofs.AllowLemmas.{change_nothing}
 use Rattle.np_unused.proofs.OrderLemmas.{unused_in_order}
 

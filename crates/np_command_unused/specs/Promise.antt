@@ -1,18 +1,14 @@
 -- What a report of `unused` says of the bytes of its inputs.
 use Rattle.std.specs.Prelude.{◌≡◌, ◌↔◌, ℕ, List, AllPairs, Contains, Ok, flat_map}
 use Rattle.np_addr.specs.declared.address.Family.{Family}
-use Rattle.np_command.specs.Inputs.{lists_of}
-use Rattle.np_command.specs.Sinks.{SinkTrace, TookWhole}
+use Rattle.np_command.specs.Prelude.{SinkTrace, TookWhole, lists_of}
 use Rattle.np_command_unused.specs.Report.{rule_line}
 use Rattle.np_conns.specs.declared.port_spot.PortSpot.{PortSpot}
 use Rattle.np_model.specs.declared.lists.EstateLists.{EstateLists}
-use Rattle.np_explain.specs.Sides.{packet_between}
-use Rattle.np_unused.specs.Order.{StandsBefore}
-use Rattle.np_unused.specs.Rules.{IsRuleOf}
-use Rattle.np_unused.specs.Used.{IsListedPacket, StandsIn}
-use Rattle.np_unused.specs.Without.{without}
+use Rattle.np_explain.specs.Prelude.{packet_between}
+use Rattle.np_unused.specs.Prelude.{IsListedPacket, IsRuleOf, StandsBefore, StandsIn, without}
 use Rattle.np_unused.specs.declared.rule_ref.RuleRef.{RuleRef}
-use Rattle.np_rules.specs.model.Verdict.{allows}
+use Rattle.np_rules.specs.Prelude.{allows}
 use Rattle.np_rules.specs.declared.packet.End.{End}
 
 -- the rule stands in what decides no packet between two pods, or between a pod and an address

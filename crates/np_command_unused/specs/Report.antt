@@ -1,8 +1,7 @@
 -- `unused`: the rules that decide nothing.
 use Rattle.std.specs.Prelude.{ℕ, List, ◌++◌, codes, flat_map}
 use Rattle.np_model.specs.declared.lists.EstateLists.{EstateLists}
-use Rattle.np_unused.specs.Rules.{rule_text}
-use Rattle.np_unused.specs.Used.{unused_of}
+use Rattle.np_unused.specs.Prelude.{rule_text, unused_of}
 use Rattle.np_unused.specs.declared.rule_ref.RuleRef.{RuleRef}
 
 abbrev pub rule_line : EstateLists → RuleRef → List ℕ

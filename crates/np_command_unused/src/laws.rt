@@ -1,6 +1,6 @@
 //! What follows from the promise. Each law is the contract of a call that does nothing.
 ghost use Rattle.std.specs.Prelude.{◌≡◌, ℕ, List, flat_map};
-ghost use Rattle.np_command.specs.Sinks.{SinkTrace};
+ghost use Rattle.np_command.specs.Prelude.{SinkTrace};
 ghost use Rattle.np_command_unused.specs.Promise.{ListsUnused};
 ghost use Rattle.np_command_unused.specs.Report.{rule_line};
 

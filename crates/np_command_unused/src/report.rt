@@ -1,9 +1,8 @@
 //! `unused`: the rules that decide nothing.
 ghost use Rattle.std.specs.Prelude.{◌≡◌, ◌≤◌, All, IfOk, Ok, flat_map, string_bytes};
-ghost use Rattle.np_command.specs.Prints.{Wrote};
-ghost use Rattle.np_command.specs.Sinks.{sunk};
+ghost use Rattle.np_command.specs.Prelude.{Wrote, sunk};
 ghost use Rattle.np_command_unused.specs.Report as spec;
-ghost use Rattle.np_unused.specs.Rules.{IsRuleOf};
+ghost use Rattle.np_unused.specs.Prelude.{IsRuleOf};
 
 use np_base::{NoMemory, Steps};
 use np_command::Failure;

@@ -2,10 +2,7 @@
 use Rattle.std.proofs.Common.{◌≡◌, ℕ, List, Bool, true, false, ◌&&◌, not, ◌≤◌, MatchBool, nat_le, sym, ◌∙◌, ap, subst}
 use Rattle.std.proofs.lemmas.Bool.{and_from, and_parts, le-leb, leb-true}
 use Rattle.np_base.specs.Ranges.{holds}
-use Rattle.np_conns.specs.Types.{PortSpot, Proto, Range, Sctp, Tcp, Udp}
-use Rattle.np_conns.specs.Conns.{Conns, ranges_of, is_spot, has_spot, AscendsInPorts, IsConns}
-use Rattle.np_conns.specs.ConnsText.{conns_of, spans_of, text_of_runs, conns_text}
-use Rattle.np_conns.specs.Spots.{ranges_of-ascend, equal_by_ranges}
+use Rattle.np_conns.specs.Prelude.{AscendsInPorts, Conns, IsConns, PortSpot, Proto, Range, Sctp, Tcp, Udp, conns_of, conns_text, equal_by_ranges, has_spot, is_spot, ranges_of, ranges_of-ascend, spans_of, text_of_runs}
 use Rattle.np_conns.proofs.RunLemmas.{runs-agree, runs-ascend, runs-hold, runs-holds}
 
 -- sets with equal ranges of each protocol are equal, and a spot of one protocol tells two sets apart

@@ -4,11 +4,8 @@ use Rattle.std.proofs.lemmas.Bool.{and_parts, cases_Bool, cond-true, cond-false,
 use Rattle.std.proofs.lemmas.Fmt.{decimal_injective}
 use Rattle.std.proofs.lemmas.List.{drop_at}
 use Rattle.std.specs.List.{slice_split, join_by, flat_map, AllByRecursion, filter}
-use Rattle.np_conns.specs.Types.{Proto, Range, Sctp, Tcp, Udp}
+use Rattle.np_conns.specs.Prelude.{AscendsInPorts, Conns, IsConns, IsRun, Proto, Range, Sctp, Tcp, Udp, conns_text, equal_by_ranges, has_spot, is_whole, joined, part, part_text, proto_name, run_text, text_of_runs}
 use Rattle.np_base.proofs.Each.{All-append}
-use Rattle.np_conns.specs.Conns.{Conns, has_spot, AscendsInPorts, IsConns, IsRun}
-use Rattle.np_conns.specs.ConnsText.{proto_name, run_text, part_text, part, joined, is_whole, text_of_runs, conns_text}
-use Rattle.np_conns.specs.Spots.{equal_by_ranges}
 use Rattle.np_conns.proofs.ConnLemmas.{conns_text-has_spot}
 use Rattle.np_conns.proofs.RunLemmas.{IsRun-from_ascending}
 use Rattle.np_conns.proofs.SplitLemmas.{lacks, lacks-append, no_hyphen, slice_split-at, slice_split-whole, slice_split-join_by, run_text-long, run_text-lacks}

@@ -5,11 +5,8 @@ use Rattle.std.proofs.lemmas.List.Folds.{list_any-append, flat_map-map}
 use Rattle.std.specs.List.{join_by, AllByRecursion}
 use Rattle.std.proofs.Math.Bool.{or-false, and-false}
 use Rattle.np_base.specs.Ranges.{is_within, holds}
-use Rattle.np_conns.specs.Types.{PortSpot, Proto, Range, Sctp, Tcp, Udp}
+use Rattle.np_conns.specs.Prelude.{Conns, IsConns, IsPart, IsRun, Part, PortSpot, Proto, Range, Sctp, Tcp, Udp, conns_text, has_spot, in_part, in_parts, in_runs, is_spot, joined, ranges_of, same_proto, text_of_part}
 use Rattle.np_base.proofs.Each.{All-append}
-use Rattle.np_conns.specs.Conns.{Conns, ranges_of, is_spot, has_spot, same_proto, IsConns, IsRun}
-use Rattle.np_conns.specs.ConnsText.{joined, conns_text}
-use Rattle.np_conns.specs.Reading.{in_runs, Part, IsPart, text_of_part, in_part, in_parts}
 use Rattle.np_conns.proofs.ConnLemmas.{conns_text-has_spot}
 use Rattle.np_conns.proofs.OneText.{parts, found, joined-tells, none-from_part, joined-not_whole, all_whole, all_whole-is}
 use Rattle.np_conns.proofs.RunLemmas.{IsRun-from_ascending}

@@ -5,10 +5,7 @@ use Rattle.std.proofs.lemmas.List.{get_or-map, length-map, take_all, take_more}
 use Rattle.std.proofs.lemmas.List.Folds.{list_any_more}
 use Rattle.std.specs.Borrow.{Bor}
 use Rattle.std.specs.List.{slice_split, join_by, list_any, AllByRecursion}
-use Rattle.np_conns.specs.Types.{Proto, Range, Sctp, Tcp, Udp}
-use Rattle.np_conns.specs.Conns.{IsRun}
-use Rattle.np_conns.specs.ConnsText.{run_text, part_text}
-use Rattle.np_conns.specs.Reading.{Part, IsPart, runs_of_part, text_of_part}
+use Rattle.np_conns.specs.Prelude.{IsPart, IsRun, Part, Proto, Range, Sctp, Tcp, Udp, part_text, run_text, runs_of_part, text_of_part}
 use Rattle.np_conns.proofs.OneText.{runs_text-cut, part_text-lacks}
 use Rattle.np_conns.proofs.SplitLemmas.{lacks, slice_split-join_by}
 

@@ -1,12 +1,10 @@
 -- The runs of a test: the one ascending list of ranges of the ports that pass. For `runs_are_the_ports_that_pass` and crates above.
 use Rattle.std.proofs.Common.{◌≡◌, ℕ, zero, suc, ◌+◌, ◌<◌, ◌≤◌, List, [], ◌∷◌, Bool, true, false, ◌&&◌, ◌||◌, eqb, leb, refl, sym, ◌∙◌, ap, arith, inl, inr}
 use Rattle.std.proofs.lemmas.Bool.{and_from, or_left, le-leb, eqb-true, eqb-false, cond_both, cases_lt}
-use Rattle.np_conns.specs.Types.{Range}
+use Rattle.np_conns.specs.Prelude.{AscendsInPorts, IsRun, Range, onto_runs, runs, runs_from}
 use Rattle.np_base.specs.Ranges.{holds, IsAscending}
 use Rattle.np_base.proofs.Ranges.{is_within-past, holds-before, IsAscending-earlier, same_members_same_ranges}
 use Rattle.std.specs.List.{AllByRecursion}
-use Rattle.np_conns.specs.Conns.{AscendsInPorts, IsRun}
-use Rattle.np_conns.specs.Runs.{onto_runs, runs_from, runs}
 
 -- a port put before the runs above it keeps them ascending
 onto_runs-ascends : (port last : ℕ) (above : List (Range ℕ)) → port ≤ last → IsAscending (λ p. p) (port + 1) last above → IsAscending (λ p. p) port last (onto_runs port above)

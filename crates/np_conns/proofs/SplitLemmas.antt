@@ -1,6 +1,5 @@
 -- Where printed texts are cut: at bytes that stand in none of the parts between them. For `read_run` and crates above.
-use Rattle.std.proofs.Common.{◌≡◌, ℕ, zero, suc, ◌<◌, ◌≤◌, List, [], ◌∷◌, ◌++◌, Bool, true, false, not, ◌&&◌, eqb, length, get_or, Option, Some, None, refl, sym, ◌∙◌, ap, arith, decimal, unwrap_or}
-use Rattle.std.proofs.Common.{inl, inr, lit<, codes, append_assoc, append-nil, subst, map}
+use Rattle.std.proofs.Common.{◌≡◌, ℕ, zero, suc, ◌<◌, ◌≤◌, List, [], ◌∷◌, ◌++◌, Bool, true, false, not, ◌&&◌, eqb, length, get_or, Option, Some, None, refl, sym, ◌∙◌, ap, arith, decimal, unwrap_or, inl, inr, lit<, codes, append_assoc, append-nil, subst, map}
 use Rattle.std.proofs.lemmas.Bool.{and_parts, and_from, not-true, not_from_false, ne_eqb, eqb-false, cond-true, cond-false, eq-eqb, cases_Bool, eqb-true, cond_both}
 use Rattle.std.proofs.lemmas.Fmt.{decimal_is_IsNumeral}
 use Rattle.std.proofs.lemmas.Str.Parse.{digit_from_value}
@@ -9,9 +8,7 @@ use Rattle.std.specs.Borrow.{Bor}
 use Rattle.std.specs.Int.{IsInRange}
 use Rattle.std.specs.List.{slice_split, onto_first, flat_map, join_by, AllByRecursion}
 use Rattle.std.specs.Str.Parse.{AllDigits}
-use Rattle.np_conns.specs.Types.{Range}
-use Rattle.np_conns.specs.Conns.{IsRun}
-use Rattle.np_conns.specs.ConnsText.{run_text}
+use Rattle.np_conns.specs.Prelude.{IsRun, Range, run_text}
 
 -- whether a byte stands nowhere in a text
 abbrev pub lacks : ℕ → List ℕ → Bool

@@ -1,9 +1,7 @@
 -- The text of connections, as it is printed part by part. For `text_of_runs`.
 use Rattle.std.proofs.Common.{◌≡◌, ℕ, List, [], ◌∷◌, ◌++◌, false, ◌&&◌, eqb, length, sym, ◌∙◌, append_assoc, append-nil}
 use Rattle.std.proofs.lemmas.Bool.{cond-false}
-use Rattle.np_conns.specs.Types.{Range, Sctp, Tcp, Udp}
-use Rattle.np_conns.specs.Appended.{with_part}
-use Rattle.np_conns.specs.ConnsText.{part, joined, is_whole, text_of_runs}
+use Rattle.np_conns.specs.Prelude.{Range, Sctp, Tcp, Udp, is_whole, joined, part, text_of_runs, with_part}
 
 -- the parts one after another, from none
 abbrev three_parts : List (Range ℕ) → List (Range ℕ) → List (Range ℕ) → List ℕ

@@ -2,6 +2,7 @@ pub mod Appended
 pub mod Conns
 pub mod ConnsText
 pub mod Faults
+pub mod Prelude
 pub mod Reading
 pub mod Runs
 pub mod Spots

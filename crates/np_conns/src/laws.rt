@@ -2,9 +2,7 @@
 ghost use Rattle.std.specs.Prelude.{◌≡◌, ℕ, ◌≤◌, Bool, true, List};
 ghost use Rattle.np_base.specs.Ranges.{holds};
 ghost use Rattle.np_base.specs.declared.range.Range.{Range};
-ghost use Rattle.np_conns.specs.Conns.{Conns, is_spot, has_spot, AscendsInPorts, IsConns};
-ghost use Rattle.np_conns.specs.ConnsText.{conns_text};
-ghost use Rattle.np_conns.specs.Runs.{runs};
+ghost use Rattle.np_conns.specs.Prelude.{AscendsInPorts, Conns, IsConns, conns_text, has_spot, is_spot, runs};
 ghost use Rattle.np_conns.specs.declared.port_spot.PortSpot.{PortSpot};
 
 /// The runs of a test of ports have exactly the ports that pass it. They ascend, and between two of them a port is

@@ -1,9 +1,7 @@
 //! The text of connections.
 ghost use Rattle.std.specs.Prelude.{◌≡◌, ◌&&◌, ◌++◌, codes, IfOk, OnOk, string_bytes};
 ghost use Rattle.std.specs.List.{join_by};
-ghost use Rattle.np_conns.specs.Appended.{with_part};
-ghost use Rattle.np_conns.specs.Conns.{has_spot};
-ghost use Rattle.np_conns.specs.ConnsText.{run_text, part, is_whole, text_of_runs, conns_text};
+ghost use Rattle.np_conns.specs.Prelude.{conns_text, has_spot, is_whole, part, run_text, text_of_runs, with_part};
 
 use crate::conn_set::ConnSet;
 use crate::proto::Proto;

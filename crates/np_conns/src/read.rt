@@ -7,9 +7,7 @@ ghost use Rattle.std.specs.Prelude.{◌≡◌, ◌≢◌, ℕ, ◌≤◌, ◌||�
 ghost use Rattle.std.specs.List.{join_by, AllByRecursion};
 ghost use Rattle.np_base.specs.Ranges.{is_within, holds};
 ghost use Rattle.np_base.specs.declared.range.Range.{Range};
-ghost use Rattle.np_conns.specs.Conns.{Conns, has_spot, AscendsInPorts, IsConns, IsRun};
-ghost use Rattle.np_conns.specs.ConnsText.{proto_name, run_text, conns_text};
-ghost use Rattle.np_conns.specs.Reading.{GivesPorts, GivesSpots, in_runs, Part, IsPart, text_of_part, IsTextOfPart, in_part, in_parts};
+ghost use Rattle.np_conns.specs.Prelude.{AscendsInPorts, Conns, GivesPorts, GivesSpots, IsConns, IsPart, IsRun, IsTextOfPart, Part, conns_text, has_spot, in_part, in_parts, in_runs, proto_name, run_text, text_of_part};
 ghost use Rattle.np_conns.specs.declared.proto.Proto.{Proto};
 
 use crate::conn_set::ConnSet;

@@ -6,19 +6,14 @@ use Rattle.std.specs.Cmp.Lexicographic.{pointwise}
 use Rattle.std.proofs.lemmas.Bool.Decides.{Decides-and, Decides-eqb}
 use Rattle.std.proofs.lemmas.Slice.Eq.{slice_eq-Decides}
 use Rattle.std.proofs.Math.Bool.{or-false, and-true, and-false}
-use Rattle.np_explain.specs.Types.{Decider, Egress, End, EstateLists, Explanation, Family, Ingress, NoSide, Part, PortSpot, Range}
+use Rattle.np_explain.specs.Prelude.{AreRightParts, Decider, Egress, End, EstateLists, Explanation, Family, Ingress, IsRightFor, NoSide, Part, PortSpot, Range, decider_between, explanation_of, packet_between, parts_of, passes_between, same_conns, same_decider, same_part, same_parts, same_sides, some_allows}
 use Rattle.np_base.specs.Ranges.{are_same_range}
 use Rattle.np_conns.proofs.ConnLemmas.{conns_of-has, conns_of-set}
-use Rattle.np_conns.specs.Conns.{Conns, IsConns, has_spot, is_spot}
-use Rattle.np_conns.specs.ConnsText.{conns_of}
+use Rattle.np_conns.specs.Prelude.{Conns, IsConns, conns_of, has_spot, is_spot}
 use Rattle.np_explain.proofs.OneListLemmas.{both_say, one_part}
 use Rattle.np_explain.proofs.RightPartsLemmas.{made_are_right}
 use Rattle.np_explain.proofs.SameDecider.{same_decider-Decides}
-use Rattle.np_explain.specs.Explanations.{IsRightFor, explanation_of, passes_between, same_conns, same_part, same_parts, same_sides, some_allows}
-use Rattle.np_explain.specs.Parts.{AreRightParts}
-use Rattle.np_explain.specs.RightParts.{parts_of, same_decider}
-use Rattle.np_explain.specs.Sides.{decider_between, packet_between}
-use Rattle.np_rules.specs.Deciders.{decider_allows}
+use Rattle.np_rules.specs.Prelude.{decider_allows}
 
 -- ---- parts that allow
 

@@ -3,10 +3,8 @@ use Rattle.std.proofs.Common.{◌≡◌, ℕ, ◌+◌, ◌*◌, ◌≤◌, List,
 use Rattle.std.proofs.lemmas.Bool.{and_parts, leb-true, false≢true}
 use Rattle.np_base.proofs.Ranges.{is_within-inside}
 use Rattle.np_base.specs.Ranges.{IsAscending, holds}
-use Rattle.np_explain.specs.Types.{PortSpot, Proto, Range, Sctp, Tcp, Udp}
-use Rattle.np_conns.specs.Conns.{AscendsInPorts, Conns, IsConns, has_spot, is_spot, ranges_of, proto_number}
-use Rattle.np_explain.specs.Order.{first_number, first_or}
-use Rattle.np_explain.specs.Parts.{spot_number}
+use Rattle.np_explain.specs.Prelude.{PortSpot, Proto, Range, Sctp, Tcp, Udp, first_number, first_or, spot_number}
+use Rattle.np_conns.specs.Prelude.{AscendsInPorts, Conns, IsConns, has_spot, is_spot, proto_number, ranges_of}
 use Rattle.np_sets.specs.Laws.{holds-from}
 
 -- ---- ports of one protocol

@@ -3,15 +3,11 @@ use Rattle.std.proofs.Common.{◌≡◌, ◌≢◌, ◌⊎◌, ℕ, ◌<◌, ◌
 use Rattle.std.specs.List.{slice_get}
 use Rattle.std.specs.Option.{option_map}
 use Rattle.std.proofs.lemmas.Option.{slice_get_cases, none-some}
-use Rattle.np_model.specs.Lawful.{IsLawful}
-use Rattle.np_explain.specs.Marks.{IsMarkOf, IsPassOf, admin_rules, base_rules, mark_decider, net_rules, pass_name}
+use Rattle.np_model.specs.Prelude.{IsLawful}
+use Rattle.np_explain.specs.Prelude.{Decider, IsMarkOf, IsPassOf, Mark, RuleName, admin_rules, base_rules, mark_decider, net_rules, pass_name}
 use Rattle.np_explain.proofs.PlaceLemmas.{at_place, place_told}
 use Rattle.np_explain.proofs.RuleLemmas.{admin_names_apart, base_names_apart, net_names_apart}
-use Rattle.np_rules.specs.Deciders.{admin_rule_name, base_rule_name, net_rule_name}
-use Rattle.np_rules.specs.model.Places.{PlacedAdminRule}
-use Rattle.np_rules.specs.PodSides.{PodSide, near_pod}
-use Rattle.np_rules.specs.model.Sides.{is_allow}
-use Rattle.np_explain.specs.Types.{Decider, Mark, RuleName}
+use Rattle.np_rules.specs.Prelude.{PlacedAdminRule, PodSide, admin_rule_name, base_rule_name, is_allow, near_pod, net_rule_name}
 use Rattle.np_rules.specs.declared.decider.Decider.TheVariants as decider
 use Rattle.np_tiers.specs.declared.mark.Mark.TheVariants as mark
 

@@ -1,7 +1,6 @@
 -- What decides at an end is well named, where the policies are well formed.
 -- For `deciders_of_read_policies_are_well_named` and `parts_have_texts_of_their_own`.
-use Rattle.std.proofs.Common.{◌≡◌, ◌≢◌, ℕ, ◌+◌, ◌<◌, ◌≤◌, ◌^◌, List, [], ◌∷◌, ◌++◌, length, map, filter, find, Bool, true, false, not, ◌||◌, ◌==◌, codes, Option, Some, None, All, AllPairs, unwrap_or}
-use Rattle.std.proofs.Common.{refl, sym, ◌∙◌, subst, arith, if◌then◌else◌}
+use Rattle.std.proofs.Common.{◌≡◌, ◌≢◌, ℕ, ◌+◌, ◌<◌, ◌≤◌, ◌^◌, List, [], ◌∷◌, ◌++◌, length, map, filter, find, Bool, true, false, not, ◌||◌, ◌==◌, codes, Option, Some, None, All, AllPairs, unwrap_or, refl, sym, ◌∙◌, subst, arith, if◌then◌else◌}
 use Rattle.std.specs.List.{enumerate_from, flat_map, list_all}
 use Rattle.std.specs.Option.{option_map_or}
 use Rattle.std.proofs.lemmas.Bool.{and_from, and_parts, false≢true, lt-ltb}
@@ -10,32 +9,17 @@ use Rattle.std.proofs.lemmas.List.{length-append}
 use Rattle.std.proofs.lemmas.List.Elements.{All-append, All-cons, All-filter, All-head, All-nil, All-tail, All-weaker}
 use Rattle.std.proofs.lemmas.List.Folds.{list_all-append}
 use Rattle.np_base.proofs.Options.{some_is}
-use Rattle.np_explain.specs.Types.{Action, AdminPolicy, Allow, BasePolicy, Decider, Deny, Direction, Egress, End as PlacedEnd, EstateLists, Family, Ingress, NetPolicy, Part, Pass, PortSpot, RuleName}
-use Rattle.np_conns.specs.Spots.{has_spot-is_spot}
-use Rattle.np_model.specs.Lawful.{is_well}
+use Rattle.np_explain.specs.Prelude.{Action, AdminPolicy, Allow, AreRightParts, BasePolicy, Decider, Deny, Direction, Egress, End as PlacedEnd, EstateLists, Family, Ingress, NetPolicy, Part, Pass, PortSpot, RuleName, decider_between, decider_text, end_at, is_rule_name, is_well_named, packet_between, placed_at}
+use Rattle.np_conns.specs.Prelude.{has_spot-is_spot}
+use Rattle.np_model.specs.Prelude.{has_slash, is_name, is_well, is_well_admin_policy, is_well_base_policy, is_well_net_policy, is_whole_word, is_word, is_word_byte, option_all}
 use Rattle.np_explain.proofs.OneListLemmas.{among_all}
 use Rattle.np_explain.proofs.PlaceLemmas.{all_flat, all_made}
 use Rattle.np_explain.proofs.RuleLemmas.{if_any}
 use Rattle.np_explain.proofs.TextLemmas.{decider_text-one}
-use Rattle.np_explain.specs.DeciderText.{decider_text}
-use Rattle.np_explain.specs.Parts.{AreRightParts}
-use Rattle.np_explain.specs.Sides.{decider_between, end_at, packet_between, placed_at}
-use Rattle.np_explain.specs.WellNamed.{is_rule_name, is_well_named}
-use Rattle.np_model.specs.Words.{has_slash, is_name, is_word, is_word_byte, is_whole_word}
-use Rattle.np_model.specs.WellPolicies.{is_well_admin_policy, is_well_base_policy, is_well_net_policy}
 use Rattle.np_model.specs.declared.network_policy.NetRule.{NetRule}
-use Rattle.np_model.specs.WellObjects.{option_all}
 use Rattle.np_rules.proofs.DeciderLemmas.{least_is_among}
 use Rattle.np_rules.proofs.PlacesLemmas.{length-numbered}
-use Rattle.np_rules.specs.model.AdminTier.{admin_decider, admin_precedes, least_by}
-use Rattle.np_rules.specs.model.BaseTier.{base_decider}
-use Rattle.np_rules.specs.Deciders.{action_decides, admin_decides, admin_rule_name, base_decides, base_rule_name, decider, isolating_names, lower_decider, net_decider, net_decides, net_policy_name, net_precedes, net_rule_name}
-use Rattle.np_rules.specs.model.Ends.{Contact, End, PodEnd, address, contact_of, pod}
-use Rattle.np_rules.specs.model.NetTier.{is_isolated, isolates, placed_net_matches}
-use Rattle.np_rules.specs.model.Places.{PlacedAdminRule, PlacedBaseRule, PlacedNetRule, admin_places, admin_rules_of, base_places, base_rules_of, end_rule_count, net_places, net_rules_of, rule_count}
-use Rattle.np_rules.specs.model.Rules.{admin_rule_matches}
-use Rattle.np_rules.specs.model.Selection.{net_selects, subject_selects}
-use Rattle.np_rules.specs.model.Verdict.{end_of}
+use Rattle.np_rules.specs.Prelude.{Contact, End, PlacedAdminRule, PlacedBaseRule, PlacedNetRule, PodEnd, action_decides, address, admin_decider, admin_decides, admin_places, admin_precedes, admin_rule_matches, admin_rule_name, admin_rules_of, base_decider, base_decides, base_places, base_rule_name, base_rules_of, contact_of, decider, end_of, end_rule_count, is_isolated, isolates, isolating_names, least_by, lower_decider, net_decider, net_decides, net_places, net_policy_name, net_precedes, net_rule_name, net_rules_of, net_selects, placed_net_matches, pod, rule_count, subject_selects}
 use Rattle.np_rules.proofs.PolicyRulesLemmas.{placed_admin}
 
 -- ---- names

@@ -1,14 +1,8 @@
 -- Something decides at each pod. For `only_addresses_have_no_side`.
 use Rattle.std.proofs.Common.{◌≡◌, ◌↔◌, ℕ, List, Bool, true, false, IsTrue, Option, Some, None, refl, sym, ap, ◌∙◌, if◌then◌else◌}
 use Rattle.std.proofs.lemmas.Bool.{false≢true}
-use Rattle.np_explain.specs.Types.{Action, Allow, Decider, Deny, Direction, EstateLists, Pass, RuleName}
-use Rattle.np_explain.specs.Sides.{is_address}
-use Rattle.np_rules.specs.model.AdminTier.{admin_decider}
-use Rattle.np_rules.specs.model.BaseTier.{base_decider}
-use Rattle.np_rules.specs.Deciders.{action_decides, admin_decides, admin_rule_name, base_decides, decider, isolating_names, lower_decider, net_decider, net_decides}
-use Rattle.np_rules.specs.model.Ends.{Contact, End, PodEnd, address, pod}
-use Rattle.np_rules.specs.model.NetTier.{is_isolated}
-use Rattle.np_rules.specs.model.Places.{PlacedAdminRule, PlacedBaseRule, PlacedNetRule}
+use Rattle.np_explain.specs.Prelude.{Action, Allow, Decider, Deny, Direction, EstateLists, Pass, RuleName, is_address}
+use Rattle.np_rules.specs.Prelude.{Contact, End, PlacedAdminRule, PlacedBaseRule, PlacedNetRule, PodEnd, action_decides, address, admin_decider, admin_decides, admin_rule_name, base_decider, base_decides, decider, is_isolated, isolating_names, lower_decider, net_decider, net_decides, pod}
 use Rattle.np_rules.specs.declared.decider.Decider.TheVariants as decider
 
 abbrev has_no_side : Decider → Bool

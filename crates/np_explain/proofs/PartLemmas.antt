@@ -1,6 +1,5 @@
 -- The carved sets, named and in order, are the right parts. For `named_parts` and `parts_with`.
-use Rattle.std.proofs.Common.{◌≡◌, ◌≢◌, ◌↔◌, ℕ, ◌<◌, ◌≤◌, List, [], ◌∷◌, ◌++◌, Bool, true, false, ◌||◌, IsTrue, eqb, length, get_or, map, filter, All, AllPairs, refl, sym, ap, append_assoc, ◌∙◌}
-use Rattle.std.proofs.Common.{subst, arith, inl, inr, if◌then◌else◌}
+use Rattle.std.proofs.Common.{◌≡◌, ◌≢◌, ◌↔◌, ℕ, ◌<◌, ◌≤◌, List, [], ◌∷◌, ◌++◌, Bool, true, false, ◌||◌, IsTrue, eqb, length, get_or, map, filter, All, AllPairs, refl, sym, ap, append_assoc, ◌∙◌, subst, arith, inl, inr, if◌then◌else◌}
 use Rattle.std.specs.List.{IsDistinct}
 use Rattle.std.specs.List.Sorted.{IsNonDecreasing, IsNonDecreasingBy, IsPermutation}
 use Rattle.std.proofs.lemmas.Bool.Decides.{nat_tests}
@@ -10,21 +9,14 @@ use Rattle.std.proofs.lemmas.List.Kept.{AllPairs-from_increasing}
 use Rattle.std.proofs.lemmas.List.Sorted.{All-permutation, IsPermutation-map, list_any-IsPermutation}
 use Rattle.std.proofs.lemmas.Option.{slice_get_cases}
 use Rattle.std.proofs.lemmas.Map.Keys.{IsDistinct-IsPermutation, IsDistinct-from_apart, IsStrictlyIncreasing-from_distinct}
-use Rattle.np_conns.specs.Conns.{Conns, IsConns, has_spot, is_spot}
-use Rattle.np_conns.specs.Spots.{has_spot-is_spot}
-use Rattle.np_explain.specs.Types.{Decider, Layer, Mark, Marked, Part, PortSpot}
-use Rattle.np_model.specs.Lawful.{IsLawful}
-use Rattle.np_explain.specs.Marks.{IsMarkOf, mark_decider, named_part}
-use Rattle.np_explain.specs.Order.{first_number}
-use Rattle.np_explain.specs.Parts.{AreRightParts, StartsBefore, some_has}
+use Rattle.np_conns.specs.Prelude.{Conns, IsConns, has_spot, has_spot-is_spot, is_spot}
+use Rattle.np_explain.specs.Prelude.{AreRightParts, Decider, IsMarkOf, Layer, Mark, Marked, Part, PortSpot, StartsBefore, first_number, mark_decider, named_part, some_has}
+use Rattle.np_model.specs.Prelude.{IsLawful}
 use Rattle.np_explain.proofs.FirstLemmas.{first_is, numbers_tell}
 use Rattle.np_explain.proofs.MarkLemmas.{marks_told}
 use Rattle.np_explain.proofs.WalkLemmas.{mark_named}
-use Rattle.np_rules.specs.Deciders.{decider}
-use Rattle.np_rules.specs.model.Ends.{Contact, pod}
-use Rattle.np_rules.specs.Layers.{IsLayer}
-use Rattle.np_rules.specs.PodSides.{PodSide, near_pod}
-use Rattle.np_tiers.specs.Marks.{mark_of, marks_at}
+use Rattle.np_rules.specs.Prelude.{Contact, IsLayer, PodSide, decider, near_pod, pod}
+use Rattle.np_tiers.specs.Prelude.{mark_of, marks_at}
 
 -- ---- what carving gives, as one record
 

@@ -2,18 +2,14 @@
 use Rattle.std.proofs.Common.{◌≡◌, ℕ, List, [], ◌∷◌, ◌++◌, true, not, eqb, codes, refl, sym, ◌∙◌, ap, subst, arith}
 use Rattle.std.proofs.lemmas.Bool.{and_parts, cond_both, eqb-false, not-true}
 use Rattle.std.specs.List.{AllByRecursion, flat_map}
-use Rattle.np_explain.specs.Types.{Direction, Part, Proto, Range, Sctp, Tcp, Udp}
+use Rattle.np_explain.specs.Prelude.{Direction, Part, Proto, Range, Sctp, Tcp, Udp, decider_text, is_well_named, part_line}
 use Rattle.np_base.proofs.Each.{All-append}
 use Rattle.np_conns.proofs.ConnLemmas.{conns_text-has_spot}
 use Rattle.np_conns.proofs.OneText.{all_whole, conns_text-injective, parts}
 use Rattle.np_conns.proofs.RunLemmas.{IsRun-from_ascending}
 use Rattle.np_conns.proofs.SplitLemmas.{lacks, lacks-append, run_text-lacks}
-use Rattle.np_conns.specs.Conns.{Conns, IsConns, IsRun, has_spot}
-use Rattle.np_conns.specs.ConnsText.{conns_text, joined, part, proto_name, run_text}
+use Rattle.np_conns.specs.Prelude.{Conns, IsConns, IsRun, conns_text, has_spot, joined, part, proto_name, run_text}
 use Rattle.np_explain.proofs.TextLemmas.{decider_text-one}
-use Rattle.np_explain.specs.DeciderText.{decider_text}
-use Rattle.np_explain.specs.PartLine.{part_line}
-use Rattle.np_explain.specs.WellNamed.{is_well_named}
 
 -- ---- the text of connections has no colon
 

@@ -7,16 +7,13 @@ use Rattle.std.proofs.lemmas.List.Kept.{AllPairs-cons, AllPairs-filter}
 use Rattle.std.specs.List.{Contains, list_any}
 use Rattle.np_base.proofs.Lists.{AllPairs-head, AllPairs-tail, Contains-later}
 use Rattle.np_addr.proofs.Pairs.{AllPairs-nil}
-use Rattle.np_conns.specs.Conns.{IsConns, has_spot, is_spot}
-use Rattle.np_conns.specs.Spots.{has_spot-is_spot}
-use Rattle.np_explain.specs.Types.{Decider, Part, PortSpot}
+use Rattle.np_conns.specs.Prelude.{IsConns, has_spot, has_spot-is_spot, is_spot}
+use Rattle.np_explain.specs.Prelude.{AreRightParts, Decider, Part, PortSpot, StartsBefore, all_spots, each_once, part_of, parts_of, same_decider, spot_number}
 use Rattle.np_conns.proofs.ConnLemmas.{conns_of-has, conns_of-well}
 use Rattle.np_explain.proofs.OneListLemmas.{one_is_right}
 use Rattle.np_explain.proofs.PartLemmas.{AllPairs-map}
 use Rattle.np_explain.proofs.SameDecider.{same_decider-Decides}
 use Rattle.np_explain.proofs.SpotLemmas.{IsBefore, all_spots-are_spots, all_spots-ascend, all_spots-has}
-use Rattle.np_explain.specs.Parts.{AreRightParts, StartsBefore, spot_number}
-use Rattle.np_explain.specs.RightParts.{all_spots, each_once, part_of, parts_of, same_decider}
 
 -- ---- lists
 

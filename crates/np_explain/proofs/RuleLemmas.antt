@@ -1,7 +1,6 @@
 -- The rules of a pod's side: those of NetworkPolicies stand in order, and no two of one tier have one name.
 -- For MarkLemmas, NamedLemmas and 2 more.
-use Rattle.std.proofs.Common.{◌≡◌, ◌≢◌, ℕ, ◌<◌, List, [], ◌∷◌, ◌++◌, Bool, true, false, not, codes, nat_lt, find, map, Some, None, Option, All, AllPairs, Ordering, Less, Equal, Greater, refl, sym}
-use Rattle.std.proofs.Common.{◌∙◌, ap, arith, unwrap_or, if◌then◌else◌}
+use Rattle.std.proofs.Common.{◌≡◌, ◌≢◌, ℕ, ◌<◌, List, [], ◌∷◌, ◌++◌, Bool, true, false, not, codes, nat_lt, find, map, Some, None, Option, All, AllPairs, Ordering, Less, Equal, Greater, refl, sym, ◌∙◌, ap, arith, unwrap_or, if◌then◌else◌}
 use Rattle.std.specs.Cmp.Lexicographic.{slice_cmp}
 use Rattle.std.specs.List.{enumerate_from}
 use Rattle.std.specs.Ordering.{match_ordering, nat_cmp, ordering_reverse}
@@ -13,13 +12,9 @@ use Rattle.std.proofs.lemmas.List.Elements.{All-nil, recursion_from_All}
 use Rattle.std.proofs.lemmas.Slice.Eq.{bytes_eq-Decides}
 use Rattle.np_base.proofs.Lists.{AllPairs-head, AllPairs-tail}
 use Rattle.np_addr.proofs.Pairs.{AllPairs-nil}
-use Rattle.np_model.specs.Lawful.{AreNamesApart, StandsBefore, comes_before}
-use Rattle.np_explain.specs.Types.{AdminPolicy, BasePolicy, Direction, NetPolicy, RuleName}
-use Rattle.np_rules.specs.Deciders.{admin_rule_name, base_rule_name, net_decider, net_precedes, net_rule_name}
-use Rattle.np_rules.specs.model.Ends.{Contact, PodEnd}
-use Rattle.np_rules.specs.model.NetTier.{placed_net_matches}
-use Rattle.np_rules.specs.model.Places.{PlacedAdminRule, PlacedNetRule, admin_places, admin_places_of, admin_rules_of, base_places, base_rules_of, net_places, net_places_of, net_rules_of}
-use Rattle.np_rules.specs.model.Selection.{net_selects, subject_selects}
+use Rattle.np_model.specs.Prelude.{AreNamesApart, StandsBefore, comes_before}
+use Rattle.np_explain.specs.Prelude.{AdminPolicy, BasePolicy, Direction, NetPolicy, RuleName}
+use Rattle.np_rules.specs.Prelude.{Contact, PlacedAdminRule, PlacedNetRule, PodEnd, admin_places, admin_places_of, admin_rule_name, admin_rules_of, base_places, base_rule_name, base_rules_of, net_decider, net_places, net_places_of, net_precedes, net_rule_name, net_rules_of, net_selects, placed_net_matches, subject_selects}
 use Rattle.np_rules.proofs.AdminTierLemmas.{IsInOrder, least_is_first, places_by as admin_places_by}
 use Rattle.np_rules.proofs.NetTierLemmas.{places_by as net_places_by}
 use Rattle.np_explain.proofs.PlaceLemmas.{all_made, numbered_pairs, pairs_flat}

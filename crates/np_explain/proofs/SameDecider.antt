@@ -9,8 +9,7 @@ use Rattle.std.specs.Cmp.{booleans_Decides}
 use Rattle.std.specs.Cmp.Lexicographic.{pointwise}
 use Rattle.std.specs.Option.{option_eq}
 use Rattle.std.specs.Str.{bytes_eq}
-use Rattle.np_explain.specs.RightParts.{same_decider, same_rule}
-use Rattle.np_explain.specs.Types.{Admin, Base, Decider, Free, Isolated, Net, NoSide, RuleName}
+use Rattle.np_explain.specs.Prelude.{Admin, Base, Decider, Free, Isolated, Net, NoSide, RuleName, same_decider, same_rule}
 
 pub same_rule-Decides : (a b : RuleName) → Decides (same_rule a b) (a ≡ b)
 same_rule-Decides a b =

@@ -8,15 +8,8 @@ use Rattle.std.proofs.lemmas.Option.{slice_get_read, slice_get_within}
 use Rattle.np_base.proofs.Lists.{slice_get-some}
 use Rattle.np_base.proofs.Options.{some_is}
 use Rattle.np_explain.proofs.PlaceLemmas.{at_place}
-use Rattle.np_explain.specs.Marks.{KeepsNames, admin_rules, base_rules, mark_decider, net_rules, pass_name, policy_name_at}
-use Rattle.np_explain.specs.Types.{AdminPart, AdminPolicy, Decider, Layer, LayerRules, NetPolicy, RuleName}
-use Rattle.np_rules.specs.Deciders.{admin_rule_name, base_rule_name, isolating_names, net_policy_name, net_rule_name}
-use Rattle.np_rules.specs.LayerRules.{NamesAdmin, NamesBase, NamesNet}
-use Rattle.np_rules.specs.Layers.{Pairwise, tier_action}
-use Rattle.np_rules.specs.model.NetTier.{isolates}
-use Rattle.np_rules.specs.model.Places.{PlacedAdminRule, PlacedBaseRule, PlacedNetRule}
-use Rattle.np_rules.specs.PodSides.{PodSide, near_pod}
-use Rattle.np_rules.specs.model.Sides.{is_allow}
+use Rattle.np_explain.specs.Prelude.{AdminPart, AdminPolicy, Decider, KeepsNames, Layer, LayerRules, NetPolicy, RuleName, admin_rules, base_rules, mark_decider, net_rules, pass_name, policy_name_at}
+use Rattle.np_rules.specs.Prelude.{NamesAdmin, NamesBase, NamesNet, Pairwise, PlacedAdminRule, PlacedBaseRule, PlacedNetRule, PodSide, admin_rule_name, base_rule_name, is_allow, isolates, isolating_names, near_pod, net_policy_name, net_rule_name, tier_action}
 use Rattle.np_rules.specs.declared.decider.Decider.TheVariants as decider
 use Rattle.np_rules.specs.declared.rule_ids.RuleId.{RuleId}
 use Rattle.np_tiers.specs.declared.layer.BasePart.{BasePart}

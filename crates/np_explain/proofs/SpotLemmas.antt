@@ -6,10 +6,8 @@ use Rattle.std.proofs.lemmas.List.FromFn.{get_or-map-range_with_len, length-map-
 use Rattle.std.specs.List.{Contains}
 use Rattle.np_base.proofs.Lists.{AllPairs-append}
 use Rattle.np_addr.proofs.Pairs.{AllPairs-nil}
-use Rattle.np_conns.specs.Conns.{is_spot, proto_number}
-use Rattle.np_explain.specs.Types.{PortSpot, Proto, Sctp, Tcp, Udp}
-use Rattle.np_explain.specs.Parts.{spot_number}
-use Rattle.np_explain.specs.RightParts.{all_spots, spots_from}
+use Rattle.np_conns.specs.Prelude.{is_spot, proto_number}
+use Rattle.np_explain.specs.Prelude.{PortSpot, Proto, Sctp, Tcp, Udp, all_spots, spot_number, spots_from}
 
 abbrev spot_at : Proto → ℕ → PortSpot
 spot_at proto port = record { proto = proto; port = port }

@@ -1,19 +1,14 @@
 -- A text of what decides belongs to one decider. For `one_text_has_one_decider`.
-use Rattle.std.proofs.Common.{◌≡◌, ℕ, ◌+◌, ◌*◌, ◌<◌, ◌^◌, List, [], ◌∷◌, ◌++◌, length, flat_map, get_or, Bool, true, false, not, ◌&&◌, ◌==◌, nat_lt, codes, decimal, Option, Some, None, is_some, refl}
-use Rattle.std.proofs.Common.{sym, ap, ◌∙◌, append_assoc, arith}
+use Rattle.std.proofs.Common.{◌≡◌, ℕ, ◌+◌, ◌*◌, ◌<◌, ◌^◌, List, [], ◌∷◌, ◌++◌, length, flat_map, get_or, Bool, true, false, not, ◌&&◌, ◌==◌, nat_lt, codes, decimal, Option, Some, None, is_some, refl, sym, ap, ◌∙◌, append_assoc, arith}
 use Rattle.std.specs.List.{list_all}
 use Rattle.std.proofs.lemmas.Bool.{and_parts, eqb-false, false≢true, not-true, true≢false}
 use Rattle.std.proofs.lemmas.Bool.Decides.{nat_tests}
 use Rattle.std.proofs.lemmas.Fmt.{decimal_injective}
 use Rattle.std.proofs.lemmas.List.{append_cancel_left}
 use Rattle.np_base.proofs.Texts.{texts-apart}
-use Rattle.np_explain.specs.DeciderText.{decider_text, names_text, pass_text, rule_text}
-use Rattle.np_explain.specs.WellNamed.{has_rule, is_rule_name, is_well_named}
-use Rattle.np_rules.specs.Deciders.{decider_allows}
-use Rattle.np_rules.specs.Texts.{verdict_text}
-use Rattle.np_model.specs.Words.{is_word, is_word_byte, direction_text, is_whole_word}
-use Rattle.np_explain.specs.Types.{Admin, Base, Decider, Direction, Egress, Free, Ingress, Isolated, Net, NoSide, RuleName}
-use Rattle.np_model.specs.WellObjects.{option_all}
+use Rattle.np_explain.specs.Prelude.{Admin, Base, Decider, Direction, Egress, Free, Ingress, Isolated, Net, NoSide, RuleName, decider_text, has_rule, is_rule_name, is_well_named, names_text, pass_text, rule_text}
+use Rattle.np_rules.specs.Prelude.{decider_allows, verdict_text}
+use Rattle.np_model.specs.Prelude.{direction_text, is_whole_word, is_word, is_word_byte, option_all}
 use Rattle.np_model.proofs.WordLemmas.{words-cut, decimal-word}
 
 -- ---- words

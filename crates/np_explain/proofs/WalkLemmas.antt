@@ -4,24 +4,15 @@ use Rattle.std.specs.List.{enumerate_from, position_from, slice_get}
 use Rattle.std.specs.Option.{option_map, option_map_or}
 use Rattle.std.proofs.lemmas.Option.{slice_get_within}
 use Rattle.np_base.proofs.Options.{some_is}
-use Rattle.np_conns.specs.Conns.{Conns, has_spot, is_spot}
-use Rattle.np_explain.specs.Types.{Action, AdminPart, Decider, Layer, Mark, PortSpot, RuleName}
-use Rattle.np_model.specs.Lawful.{IsLawful}
-use Rattle.np_explain.specs.Marks.{IsMarkOf, IsPassOf, SaysActions, admin_rules, base_rules, mark_decider, net_rules, pass_name}
+use Rattle.np_conns.specs.Prelude.{Conns, has_spot, is_spot}
+use Rattle.np_explain.specs.Prelude.{Action, AdminPart, Decider, IsMarkOf, IsPassOf, Layer, Mark, PortSpot, RuleName, SaysActions, admin_rules, base_rules, mark_decider, net_rules, pass_name}
+use Rattle.np_model.specs.Prelude.{IsLawful}
 use Rattle.np_explain.proofs.RuleLemmas.{net_decider_is_first}
 use Rattle.np_model.specs.declared.admin_policy.Action.TheVariants as policy
 use Rattle.np_rules.proofs.AdminTierLemmas.{decider_is_first}
-use Rattle.np_rules.specs.Deciders.{action_decides, admin_decides, admin_rule_name, base_decides, base_rule_name, decider, isolating_names, lower_decider, net_decider, net_decides, net_rule_name}
-use Rattle.np_rules.specs.model.BaseTier.{base_decider}
-use Rattle.np_rules.specs.model.Ends.{Contact, pod}
-use Rattle.np_rules.specs.Layers.{IsAdminPart, IsBasePart, IsLayer, IsSetOf, Pairwise, matches_of, tier_action}
-use Rattle.np_rules.specs.model.NetTier.{is_isolated, placed_net_matches}
-use Rattle.np_rules.specs.model.Places.{PlacedAdminRule, PlacedBaseRule, PlacedNetRule}
-use Rattle.np_rules.specs.PodSides.{PodSide, near_pod}
-use Rattle.np_rules.specs.model.Rules.{admin_rule_matches}
-use Rattle.np_rules.specs.model.Sides.{is_allow}
+use Rattle.np_rules.specs.Prelude.{Contact, IsAdminPart, IsBasePart, IsLayer, IsSetOf, Pairwise, PlacedAdminRule, PlacedBaseRule, PlacedNetRule, PodSide, action_decides, admin_decides, admin_rule_matches, admin_rule_name, base_decider, base_decides, base_rule_name, decider, is_allow, is_isolated, isolating_names, lower_decider, matches_of, near_pod, net_decider, net_decides, net_rule_name, placed_net_matches, pod, tier_action}
 use Rattle.np_rules.specs.declared.decider.Decider.TheVariants as decider
-use Rattle.np_tiers.specs.Marks.{action_mark, admin_mark, base_mark, lower_mark, mark_of, net_mark}
+use Rattle.np_tiers.specs.Prelude.{action_mark, admin_mark, base_mark, lower_mark, mark_of, net_mark}
 use Rattle.np_tiers.specs.declared.layer.Action.{Action as TierAction}
 use Rattle.np_tiers.proofs.Verdicts.{StandsAt, whole_stands, first_stands, rest_stands}
 

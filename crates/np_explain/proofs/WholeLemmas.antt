@@ -1,9 +1,8 @@
 -- One part of everything. For `everything`.
 use Rattle.std.proofs.Common.{◌≡◌, ◌↔◌, IsTrue, Bool, true, false, [], ◌∷◌, ◌||◌, ap, ◌∙◌, refl, arith}
 use Rattle.std.proofs.lemmas.List.Elements.{All-cons, All-nil}
-use Rattle.np_conns.specs.Conns.{Conns, IsConns, has_spot, is_spot}
-use Rattle.np_explain.specs.Types.{Decider, PortSpot, Tcp}
-use Rattle.np_explain.specs.Parts.{AreRightParts}
+use Rattle.np_conns.specs.Prelude.{Conns, IsConns, has_spot, is_spot}
+use Rattle.np_explain.specs.Prelude.{AreRightParts, Decider, PortSpot, Tcp}
 
 -- where one decider decides each spot
 pub whole_is_right : (decider : Decider) (conns : Conns) → IsConns conns → ((spot : PortSpot) → has_spot conns spot ≡ is_spot spot) →

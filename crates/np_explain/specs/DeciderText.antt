@@ -3,8 +3,8 @@ use Rattle.std.specs.Prelude.{ℕ, List, [], ◌++◌, codes, decimal, Option}
 use Rattle.std.specs.List.{join_by}
 use Rattle.std.specs.Option.{option_map_or}
 use Rattle.np_explain.specs.Types.{Admin, Base, Decider, Direction, Free, Isolated, Net, NoSide, RuleName}
-use Rattle.np_model.specs.Words.{direction_text}
-use Rattle.np_rules.specs.Texts.{verdict_text}
+use Rattle.np_model.specs.Prelude.{direction_text}
+use Rattle.np_rules.specs.Prelude.{verdict_text}
 
 -- `name ingress[n]`, where n is the rule's place from 0
 abbrev pub rule_text : Direction → RuleName → List ℕ

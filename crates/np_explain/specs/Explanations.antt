@@ -4,13 +4,11 @@ use Rattle.std.specs.Cmp.Lexicographic.{pointwise}
 use Rattle.std.specs.List.{list_any}
 use Rattle.np_explain.specs.Types.{Egress, End, EstateLists, Explanation, Family, Ingress, Part, PortSpot}
 use Rattle.np_base.specs.Ranges.{are_same_range}
-use Rattle.np_conns.specs.Conns.{Conns, has_spot, is_spot}
-use Rattle.np_conns.specs.ConnsText.{conns_of}
+use Rattle.np_conns.specs.Prelude.{Conns, conns_of, has_spot, is_spot}
 use Rattle.np_explain.specs.Parts.{AreRightParts}
 use Rattle.np_explain.specs.RightParts.{parts_of, same_decider}
 use Rattle.np_explain.specs.Sides.{decider_between, packet_between}
-use Rattle.np_rules.specs.Deciders.{decider_allows}
-use Rattle.np_rules.specs.model.Verdict.{allows}
+use Rattle.np_rules.specs.Prelude.{allows, decider_allows}
 
 -- ---- the explanation of two ends
 

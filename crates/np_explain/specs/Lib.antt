@@ -4,6 +4,7 @@ pub mod Marks
 pub mod Order
 pub mod PartLine
 pub mod Parts
+pub mod Prelude
 pub mod RightParts
 pub mod Sides
 pub mod Types

@@ -2,15 +2,9 @@
 use Rattle.std.specs.Prelude.{◌≡◌, ℕ, ◌<◌, List, [], length, filter, Option, Some, None}
 use Rattle.std.specs.List.{slice_get}
 use Rattle.std.specs.Option.{option_map, option_map_or}
-use Rattle.np_conns.specs.Conns.{Conns}
+use Rattle.np_conns.specs.Prelude.{Conns}
 use Rattle.np_explain.specs.Types.{Decider, Layer, LayerRules, Mark, Marked, NetPolicy, Part, RuleName}
-use Rattle.np_rules.specs.Deciders.{admin_rule_name, base_rule_name, isolating_names, net_policy_name, net_rule_name}
-use Rattle.np_rules.specs.LayerRules.{NamesAdmin, NamesBase, NamesNet}
-use Rattle.np_rules.specs.Layers.{Pairwise, tier_action}
-use Rattle.np_rules.specs.model.NetTier.{isolates}
-use Rattle.np_rules.specs.model.Places.{PlacedAdminRule, PlacedBaseRule, PlacedNetRule, admin_places, base_places, net_places}
-use Rattle.np_rules.specs.PodSides.{PodSide, near_pod}
-use Rattle.np_rules.specs.model.Sides.{is_allow}
+use Rattle.np_rules.specs.Prelude.{NamesAdmin, NamesBase, NamesNet, Pairwise, PlacedAdminRule, PlacedBaseRule, PlacedNetRule, PodSide, admin_places, admin_rule_name, base_places, base_rule_name, is_allow, isolates, isolating_names, near_pod, net_places, net_policy_name, net_rule_name, tier_action}
 use Rattle.np_rules.specs.declared.decider.Decider.TheVariants as decider
 use Rattle.np_tiers.specs.declared.mark.Mark.TheVariants as mark
 

@@ -1,7 +1,7 @@
 -- The number of the least spot of a set.
 use Rattle.std.specs.Prelude.{ℕ, ◌+◌, List, [], ◌∷◌}
 use Rattle.np_explain.specs.Types.{Range}
-use Rattle.np_conns.specs.Conns.{Conns}
+use Rattle.np_conns.specs.Prelude.{Conns}
 
 -- that of the first port, where the ports are numbered from `start` on
 abbrev pub first_or : List (Range ℕ) → ℕ → ℕ → ℕ

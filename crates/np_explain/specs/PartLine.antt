@@ -1,7 +1,6 @@
 -- A line of an explanation.
 use Rattle.std.specs.Prelude.{ℕ, List, ◌++◌, codes}
-use Rattle.np_conns.specs.Conns.{has_spot}
-use Rattle.np_conns.specs.ConnsText.{conns_text}
+use Rattle.np_conns.specs.Prelude.{conns_text, has_spot}
 use Rattle.np_explain.specs.DeciderText.{decider_text}
 use Rattle.np_explain.specs.Types.{Direction, Part}
 

@@ -5,7 +5,7 @@ use Rattle.std.specs.Cmp.Lexicographic.{pointwise}
 use Rattle.std.specs.List.{flat_map, range_with_len}
 use Rattle.std.specs.Option.{option_eq}
 use Rattle.std.specs.Str.{bytes_eq}
-use Rattle.np_conns.specs.ConnsText.{conns_of}
+use Rattle.np_conns.specs.Prelude.{conns_of}
 use Rattle.np_explain.specs.Types.{Admin, Base, Decider, Free, Isolated, Net, NoSide, Part, PortSpot, Proto, RuleName, Sctp, Tcp, Udp}
 
 -- ---- all spots in order

@@ -1,11 +1,8 @@
 -- What decides the packets between two ends, at one side of them.
 use Rattle.std.specs.Prelude.{◌≡◌, Bool, true, false, ◌==◌}
-use Rattle.np_addr.specs.Addresses.{family_of}
+use Rattle.np_addr.specs.Prelude.{family_of}
 use Rattle.np_explain.specs.Types.{Decider, Direction, Egress, End as PlacedEnd, EstateLists, Family, Ingress, PortSpot}
-use Rattle.np_rules.specs.Deciders.{decider}
-use Rattle.np_rules.specs.model.Ends.{Contact, End, Packet, address, contact, contact_of, pod}
-use Rattle.np_rules.specs.PodSides.{PodSide, near_pod}
-use Rattle.np_rules.specs.model.Verdict.{end_of}
+use Rattle.np_rules.specs.Prelude.{Contact, End, Packet, PodSide, address, contact, contact_of, decider, end_of, near_pod, pod}
 use Rattle.np_rules.specs.declared.packet.End.TheVariants.{Pod, At}
 
 -- ---- two ends

@@ -1,8 +1,7 @@
 -- Deciders whose names are such as the policies that are read have.
 use Rattle.std.specs.Prelude.{◌^◌, length, Bool, true, false, not, ◌&&◌, ◌==◌, nat_lt, is_some}
 use Rattle.std.specs.List.{list_all}
-use Rattle.np_model.specs.WellObjects.{option_all}
-use Rattle.np_model.specs.Words.{is_whole_word}
+use Rattle.np_model.specs.Prelude.{is_whole_word, option_all}
 use Rattle.np_explain.specs.Types.{Admin, Base, Decider, Free, Isolated, Net, NoSide, RuleName}
 
 -- a rule of a policy whose name, or `namespace/name`, is a word and not empty, at a place that 64 bits can say

@@ -1,16 +1,9 @@
 //! What decides every packet between two ends.
 ghost use Rattle.std.specs.Prelude.{◌≡◌, ◌+◌, ◌≤◌, ◌<◌, false, length, map, All, IfOk, OnOk};
-ghost use Rattle.np_conns.specs.Conns.{has_spot, is_spot};
-ghost use Rattle.np_model.specs.Lawful.{IsLawful};
-ghost use Rattle.np_explain.specs.Marks.{IsMarkOf, named_part};
-ghost use Rattle.np_explain.specs.Parts.{AreRightParts};
-ghost use Rattle.np_explain.specs.RightParts.{parts_of};
-ghost use Rattle.np_explain.specs.Sides.{IsFamilyAt, IsFamilyOf, are_one_pod, decider_between, decider_near, placed_at, with_end};
-ghost use Rattle.np_rules.specs.Deciders.{decider};
-ghost use Rattle.np_rules.specs.model.Ends.{pod};
-ghost use Rattle.np_rules.specs.model.Places.{end_rule_count};
-ghost use Rattle.np_rules.specs.PodSides.{IsSideLayer, near_pod, side_of, side_rule_count};
-ghost use Rattle.np_rules.specs.model.Verdict.{IsEndOf, end_of};
+ghost use Rattle.np_conns.specs.Prelude.{has_spot, is_spot};
+ghost use Rattle.np_model.specs.Prelude.{IsLawful};
+ghost use Rattle.np_explain.specs.Prelude.{AreRightParts, IsFamilyAt, IsFamilyOf, IsMarkOf, are_one_pod, decider_between, decider_near, named_part, parts_of, placed_at, with_end};
+ghost use Rattle.np_rules.specs.Prelude.{IsEndOf, IsSideLayer, decider, end_of, end_rule_count, near_pod, pod, side_of, side_rule_count};
 
 use crate::flow::Flow;
 use crate::order::first_number;

@@ -1,12 +1,11 @@
 //! What decides between two ends, at both sides of them, and what passes.
 ghost use Rattle.std.specs.Prelude.{◌≡◌, ◌≤◌, ◌&&◌, false, true, IfOk};
-ghost use Rattle.np_conns.specs.Conns.{IsConns, has_spot, is_spot};
+ghost use Rattle.np_conns.specs.Prelude.{IsConns, has_spot, is_spot};
 ghost use Rattle.np_conns.specs.declared.port_spot.PortSpot.{PortSpot};
-ghost use Rattle.np_model.specs.Lawful.{IsLawful};
+ghost use Rattle.np_model.specs.Prelude.{IsLawful};
 ghost use Rattle.np_explain.specs.Explanations as spec;
 ghost use Rattle.np_explain.specs.Sides.{IsFamilyOf, are_one_pod};
-ghost use Rattle.np_rules.specs.Deciders.{decider_allows};
-ghost use Rattle.np_rules.specs.model.Verdict.{IsEndOf};
+ghost use Rattle.np_rules.specs.Prelude.{IsEndOf, decider_allows};
 
 use crate::explaining::explain;
 use crate::flow::Flow;

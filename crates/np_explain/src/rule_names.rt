@@ -1,9 +1,7 @@
 //! The names of policies and of their rules.
 ghost use Rattle.std.specs.Prelude.{◌≡◌, ◌<◌, length, map, All, IfOk};
-ghost use Rattle.np_explain.specs.Marks.{policy_name_at};
-ghost use Rattle.np_rules.specs.Deciders.{admin_rule_name, net_policy_name, net_rule_name};
-ghost use Rattle.np_rules.specs.LayerRules.{NamesAdmin, NamesNet};
-ghost use Rattle.np_rules.specs.model.Places.{PlacedAdminRule, PlacedNetRule};
+ghost use Rattle.np_explain.specs.Prelude.{policy_name_at};
+ghost use Rattle.np_rules.specs.Prelude.{NamesAdmin, NamesNet, PlacedAdminRule, PlacedNetRule, admin_rule_name, net_policy_name, net_rule_name};
 
 use np_base::{NoMemory, Seq, Text};
 use np_model::{AdminPolicy, NetPolicy};

@@ -2,7 +2,7 @@
 ghost use Rattle.std.specs.Prelude.{◌≡◌, ◌↔◌, IsTrue};
 ghost use Rattle.std.specs.Option.{option_eq};
 ghost use Rattle.np_explain.specs.Explanations as spec;
-ghost use Rattle.np_explain.specs.RightParts.{same_decider, same_rule};
+ghost use Rattle.np_explain.specs.Prelude.{same_decider, same_rule};
 
 use crate::explanation::Explanation;
 use crate::part::Part;

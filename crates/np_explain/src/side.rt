@@ -1,13 +1,10 @@
 //! A pod's side: what decides where the walk of its layer ends.
 ghost use Rattle.std.specs.Prelude.{◌≡◌, ◌<◌, length, IfOk, Some};
 ghost use Rattle.std.specs.List.{slice_get};
-ghost use Rattle.np_model.specs.Lawful.{IsFew};
+ghost use Rattle.np_model.specs.Prelude.{IsFew};
 ghost use Rattle.np_explain.specs.Marks.{IsMarkOf, IsPassOf, SaysActions, admin_rules, base_rules, mark_decider, net_rules, pass_name};
 ghost use Rattle.np_model.specs.declared.admin_policy.Action.{Action as PolicyAction};
-ghost use Rattle.np_rules.specs.Deciders.{admin_rule_name, base_rule_name, net_rule_name};
-ghost use Rattle.np_rules.specs.Layers.{tier_action};
-ghost use Rattle.np_rules.specs.model.Places.{PlacedAdminRule, PlacedBaseRule, PlacedNetRule};
-ghost use Rattle.np_rules.specs.model.Sides.{is_allow};
+ghost use Rattle.np_rules.specs.Prelude.{PlacedAdminRule, PlacedBaseRule, PlacedNetRule, admin_rule_name, base_rule_name, is_allow, net_rule_name, tier_action};
 
 use crate::rule_names::{admin_rule_name, net_policy_names, net_rule_name};
 use np_base::{NoMemory, Text};

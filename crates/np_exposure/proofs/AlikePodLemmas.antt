@@ -3,30 +3,16 @@ use Rattle.std.proofs.Common.{◌≡◌, ℕ, List, [], ◌∷◌, ◌++◌, map
 use Rattle.std.specs.List.{AllByRecursion, enumerate_from, flat_map, list_any}
 use Rattle.std.specs.Str.{bytes_eq}
 use Rattle.np_base.proofs.Each.{All-parts}
-use Rattle.np_exposure.specs.Types.{AdminPolicy, AdminPort, AdminRule, BasePolicy, Direction, Egress, EstateLists, Four, Ingress, NetPolicy, NetPort, NetRule, PortSpot, Stranger}
-use Rattle.np_conns.specs.Conns.{same_proto}
-use Rattle.np_exposure.specs.Mentions.{mentions}
-use Rattle.np_exposure.specs.Strangers.{exposes}
-use Rattle.np_fold.specs.Keys.{keys_of_admin_policy, keys_of_admin_rule, keys_of_baseline, keys_of_estate, keys_of_net_direction, keys_of_net_policy, keys_of_selector, keys_of_service, keys_of_subject}
+use Rattle.np_exposure.specs.Prelude.{AdminPolicy, AdminPort, AdminRule, BasePolicy, Direction, Egress, EstateLists, Four, Ingress, NetPolicy, NetPort, NetRule, PortSpot, Stranger, exposes, mentions}
+use Rattle.np_conns.specs.Prelude.{same_proto}
+use Rattle.np_fold.specs.Prelude.{keys_of_admin_policy, keys_of_admin_rule, keys_of_baseline, keys_of_estate, keys_of_net_direction, keys_of_net_policy, keys_of_selector, keys_of_service, keys_of_subject}
 use Rattle.np_fold.proofs.SelectorLemmas.{selector-agree}
-use Rattle.np_labels.specs.Labels.{AgreeOn}
-use Rattle.np_labels.specs.Selectors.{meets_selector}
+use Rattle.np_labels.specs.Prelude.{AgreeOn, meets_selector}
 use Rattle.np_model.specs.declared.admin_policy.AdminPort.TheVariants as admin_port
 use Rattle.np_model.specs.declared.admin_policy.Subject.{Subject}
 use Rattle.np_model.specs.declared.network_policy.NetPort.TheVariants as net_port
 use Rattle.np_rules.proofs.EachItem.{All-each, filter-same, find-same, list_any-same, none_or_any-same}
-use Rattle.np_rules.specs.model.AdminTier.{admin_decider, admin_precedes, least_by}
-use Rattle.np_rules.specs.model.BaseTier.{base_decider}
-use Rattle.np_rules.specs.model.Ends.{Contact, PodEnd, contact, destination_of, pod, stranger_end}
-use Rattle.np_rules.specs.model.NetTier.{is_isolated, isolates, permits, placed_net_matches}
-use Rattle.np_rules.specs.model.Peers.{admin_peer_matches, net_peer_matches}
-use Rattle.np_rules.specs.model.Places.{admin_places, admin_places_of, base_places, base_rules_of, net_places, net_places_of, net_rules_of}
-use Rattle.np_rules.specs.PodSides.{side_of}
-use Rattle.np_rules.specs.model.PortEntries.{admin_entry_matches, has_named, net_entry_matches}
-use Rattle.np_rules.specs.model.Rules.{admin_rule_matches, net_rule_matches, none_or_any}
-use Rattle.np_rules.specs.model.Selection.{net_selects, subject_selects}
-use Rattle.np_rules.specs.model.Sides.{admin_says, base_says, lower_allows, side_allows}
-use Rattle.np_rules.specs.model.Verdict.{pod_at}
+use Rattle.np_rules.specs.Prelude.{Contact, PodEnd, admin_decider, admin_entry_matches, admin_peer_matches, admin_places, admin_places_of, admin_precedes, admin_rule_matches, admin_says, base_decider, base_places, base_rules_of, base_says, contact, destination_of, has_named, is_isolated, isolates, least_by, lower_allows, net_entry_matches, net_peer_matches, net_places, net_places_of, net_rule_matches, net_rules_of, net_selects, none_or_any, permits, placed_net_matches, pod, pod_at, side_allows, side_of, stranger_end, subject_selects}
 
 -- Two pods of one namespace, with the same labels of it and the same named ports, that have the same values of the keys
 -- that selectors name.

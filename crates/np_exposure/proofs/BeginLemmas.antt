@@ -1,6 +1,5 @@
 -- The choices at first are those of nothing assumed. For `exposure` and `rows_of_mentions`.
-use Rattle.std.proofs.Common.{◌≡◌, ℕ, ◌<◌, List, [], ◌∷◌, ◌++◌, length, map, filter, flat_map, fold, Bool, true, false, not, cond, ◌||◌, Option, Some, None, is_some, codes, refl, sym, ap, ◌∙◌, subst}
-use Rattle.std.proofs.Common.{inl, inr, ◌⊎◌, arith, if◌then◌else◌}
+use Rattle.std.proofs.Common.{◌≡◌, ℕ, ◌<◌, List, [], ◌∷◌, ◌++◌, length, map, filter, flat_map, fold, Bool, true, false, not, cond, ◌||◌, Option, Some, None, is_some, codes, refl, sym, ap, ◌∙◌, subst, inl, inr, ◌⊎◌, arith, if◌then◌else◌}
 use Rattle.std.specs.List.{AllByRecursion, list_all, list_any}
 use Rattle.std.specs.Str.{bytes_eq}
 use Rattle.std.specs.Cmp.Lexicographic.{bytes_decides, nat_list_eq_equiv}
@@ -11,20 +10,11 @@ use Rattle.np_exposure.proofs.FirstLemmas.{first-parts}
 use Rattle.np_exposure.proofs.ListLemmas.{All-from, IsAmong-filter, list_all-from}
 use Rattle.np_exposure.proofs.SameLemmas.{is_same-equal}
 use Rattle.np_exposure.proofs.StandsLemmas.{Alike, HasLike, Stands, walked-rows}
-use Rattle.np_exposure.specs.Mentions.{each_once, is_same, mentions, same_side, with_more}
-use Rattle.np_exposure.specs.Strangers.{is_hypothetical, labels_at, meets_all}
-use Rattle.np_exposure.specs.Tree.{AreRowsOf}
-use Rattle.np_exposure.specs.Weight.{keys_on, looks_at, values_at}
-use Rattle.np_exposure.specs.Types.{Absent, ExposureRow, Namespace, NoneOf, OneOf, Op, Pod, Present, Side, SidedRequirement, Stranger}
-use Rattle.np_exposure.specs.Choices.{Choices, choices_at_first, choices_of, fits, is_name_key, label_at, labels_on, other_than}
-use Rattle.np_exposure.specs.steps.States.{are_at, is_at}
-use Rattle.np_exposure.specs.steps.Walks.{AreWalked}
+use Rattle.np_exposure.specs.Prelude.{Absent, AreRowsOf, AreWalked, Choices, ExposureRow, Namespace, NoneOf, OneOf, Op, Pod, Present, Side, SidedRequirement, Stranger, are_at, choices_at_first, choices_of, each_once, fits, is_at, is_hypothetical, is_name_key, is_same, keys_on, label_at, labels_at, labels_on, looks_at, meets_all, mentions, other_than, same_side, values_at, with_more}
 use Rattle.np_labels.proofs.Distinct.{is_listed-distinct}
-use Rattle.np_labels.specs.Labels.{value_of}
-use Rattle.np_labels.specs.Selectors.{allows, is_listed}
+use Rattle.np_labels.specs.Prelude.{allows, is_listed, value_of}
 use Rattle.np_rules.proofs.EachItem.{All-each}
-use Rattle.np_rules.specs.Laws.{IsAmong}
-use Rattle.np_rules.specs.PodSides.{PodSide}
+use Rattle.np_rules.specs.Prelude.{IsAmong, PodSide}
 
 -- ---- each requirement stands once
 

@@ -5,12 +5,8 @@ use Rattle.std.proofs.lemmas.Bool.{and_parts, eqb-true, false≢true, true≢fal
 use Rattle.np_exposure.proofs.StandsLemmas.{all_at-narrowed}
 use Rattle.np_exposure.proofs.StateLemmas.{alone-step}
 use Rattle.np_exposure.proofs.WalkLemmas.{IsFilled, walked-alone}
-use Rattle.np_exposure.specs.Choices.{Choices, allows_found}
-use Rattle.np_exposure.specs.Weight.{looks_at}
-use Rattle.np_exposure.specs.Types.{Aside, ExposureRow, Pending, SidedRequirement}
-use Rattle.np_exposure.specs.steps.States.{IsState, are_at, can_be, is_at, is_decided, is_made, suits}
-use Rattle.np_exposure.specs.steps.Walks.{AreWalked, Fills, IsLeaf, IsStepTo, still_asked}
-use Rattle.np_rules.specs.PodSides.{PodSide}
+use Rattle.np_exposure.specs.Prelude.{AreWalked, Aside, Choices, ExposureRow, Fills, IsLeaf, IsState, IsStepTo, Pending, SidedRequirement, allows_found, are_at, can_be, is_at, is_decided, is_made, looks_at, still_asked, suits}
+use Rattle.np_rules.specs.Prelude.{PodSide}
 
 -- ---- a requirement of a key with one choice
 

@@ -5,26 +5,14 @@ use Rattle.std.specs.Str.{bytes_eq}
 use Rattle.std.proofs.lemmas.Bool.{false≢true}
 use Rattle.std.proofs.Math.Bool.{or-false}
 use Rattle.np_base.proofs.Each.{All-weaker, All-parts}
-use Rattle.np_exposure.specs.Types.{AdminPeer, AdminPort, AdminRule, Direction, Egress, Four, Ingress, Namespace, NetPeer, NetPort, NetRule, OneOf, Pod, PortSpot, Requirement, Selector, Side, SidedRequirement, Stranger}
-use Rattle.np_exposure.specs.Mentions.{mentions, named, of_admin_peer, of_admin_rule, of_net_peer, of_net_rule, of_placed, of_selector}
-use Rattle.np_exposure.specs.Strangers.{exposes, is_hypothetical, labels_at, meets}
-use Rattle.np_labels.specs.Labels.{value_of}
-use Rattle.np_labels.specs.Selectors.{allows, meets_requirement, meets_selector}
+use Rattle.np_exposure.specs.Prelude.{AdminPeer, AdminPort, AdminRule, Direction, Egress, Four, Ingress, Namespace, NetPeer, NetPort, NetRule, OneOf, Pod, PortSpot, Requirement, Selector, Side, SidedRequirement, Stranger, exposes, is_hypothetical, labels_at, meets, mentions, named, of_admin_peer, of_admin_rule, of_net_peer, of_net_rule, of_placed, of_selector}
+use Rattle.np_labels.specs.Prelude.{allows, meets_requirement, meets_selector, value_of}
 use Rattle.np_model.specs.declared.admin_policy.AdminPeer.TheVariants as admin
 use Rattle.np_model.specs.declared.admin_policy.AdminPort.TheVariants as admin_port
 use Rattle.np_model.specs.declared.network_policy.NetPeer.TheVariants as net
 use Rattle.np_model.specs.declared.network_policy.NetPort.TheVariants as net_port
 use Rattle.np_rules.proofs.EachItem.{All-each, All-flat, filter-same, find-same, list_any-same, none_or_any-same}
-use Rattle.np_rules.specs.model.AdminTier.{admin_decider, admin_precedes, least_by}
-use Rattle.np_rules.specs.model.BaseTier.{base_decider}
-use Rattle.np_rules.specs.model.Ends.{Contact, PodEnd, destination_of, pod, stranger_end}
-use Rattle.np_rules.specs.model.NetTier.{is_isolated, permits, placed_net_matches}
-use Rattle.np_rules.specs.model.Peers.{admin_peer_matches, net_peer_matches, pods_match}
-use Rattle.np_rules.specs.model.Places.{admin_places, base_places, net_places}
-use Rattle.np_rules.specs.PodSides.{PodSide, near_pod, with_stranger}
-use Rattle.np_rules.specs.model.PortEntries.{admin_entry_matches, net_entry_matches}
-use Rattle.np_rules.specs.model.Rules.{admin_rule_matches, net_rule_matches, none_or_any}
-use Rattle.np_rules.specs.model.Sides.{admin_says, base_says, lower_allows, side_allows}
+use Rattle.np_rules.specs.Prelude.{Contact, PodEnd, PodSide, admin_decider, admin_entry_matches, admin_peer_matches, admin_places, admin_precedes, admin_rule_matches, admin_says, base_decider, base_places, base_says, destination_of, is_isolated, least_by, lower_allows, near_pod, net_entry_matches, net_peer_matches, net_places, net_rule_matches, none_or_any, permits, placed_net_matches, pod, pods_match, side_allows, stranger_end, with_stranger}
 
 -- names of which both or neither is this one
 names-same : (namespace : List ℕ) (a b : Option (List ℕ)) → is_some a ≡ true → is_some b ≡ true → allows OneOf (namespace ∷ []) a ≡ allows OneOf (namespace ∷ []) b →

@@ -10,15 +10,8 @@ use Rattle.np_exposure.proofs.FirstLemmas.{first-parts}
 use Rattle.np_exposure.proofs.ListLemmas.{list_all-at}
 use Rattle.np_exposure.proofs.RightLemmas.{some_stranger}
 use Rattle.np_exposure.proofs.StandsLemmas.{HasLike, Stands, Stands-more}
-use Rattle.np_exposure.specs.Mentions.{mentions, requirements}
-use Rattle.np_exposure.specs.Strangers.{negated}
-use Rattle.np_exposure.specs.Tree.{AreRows, AreRowsAt, AreRowsOf, IsJoined, IsPossible, always, apart, either, equal, never, with_first}
-use Rattle.np_exposure.specs.Weight.{keys_on, looks_at, patterns_at, patterns_on, product, values_at, weight}
-use Rattle.np_exposure.specs.Types.{ExposureRow, Namespace, Pod, Side, SidedRequirement, Stranger}
-use Rattle.np_exposure.specs.Choices.{Choices, choices_at_first, choices_of, is_name_key, label_at, labels_on, other_than}
-use Rattle.np_exposure.specs.steps.States.{is_at, narrowed, suits}
-use Rattle.np_rules.specs.Laws.{IsAmong}
-use Rattle.np_rules.specs.PodSides.{PodSide}
+use Rattle.np_exposure.specs.Prelude.{AreRows, AreRowsAt, AreRowsOf, Choices, ExposureRow, IsJoined, IsPossible, Namespace, Pod, Side, SidedRequirement, Stranger, always, apart, choices_at_first, choices_of, either, equal, is_at, is_name_key, keys_on, label_at, labels_on, looks_at, mentions, narrowed, negated, never, other_than, patterns_at, patterns_on, product, requirements, suits, values_at, weight, with_first}
+use Rattle.np_rules.specs.Prelude.{IsAmong, PodSide}
 
 -- how many patterns the choices have
 abbrev size : List Choices → ℕ

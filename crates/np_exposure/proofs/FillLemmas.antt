@@ -1,7 +1,6 @@
 -- Rows that wait. For `all_joined`.
 use Rattle.std.proofs.Common.{List, [], ◌∷◌, ◌++◌, refl, sym, subst}
-use Rattle.np_exposure.specs.Types.{ExposureRow, Pending}
-use Rattle.np_exposure.specs.steps.Walks.{Fills, IsJoinedBy}
+use Rattle.np_exposure.specs.Prelude.{ExposureRow, Fills, IsJoinedBy, Pending}
 
 -- the last that waits is filled first
 pub Fills-push : (before : List Pending) (last : Pending) (rows inner made : List ExposureRow) → IsJoinedBy last.asked.now last.wanted last.rows.items rows inner → Fills before inner made →

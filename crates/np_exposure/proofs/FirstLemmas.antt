@@ -7,14 +7,9 @@ use Rattle.std.proofs.lemmas.Bool.{and_parts, and_from}
 use Rattle.std.proofs.lemmas.List.{map-append}
 use Rattle.np_base.proofs.Lists.{list_all-both}
 use Rattle.np_exposure.proofs.SameLemmas.{same_side-refl}
-use Rattle.np_exposure.specs.Mentions.{same_side}
-use Rattle.np_exposure.specs.Weight.{keys_on}
-use Rattle.np_exposure.specs.Types.{MentionedKey, Namespace, Pod, Side, SidedRequirement}
-use Rattle.np_exposure.specs.Choices.{Choices, choices_at_first, choices_of, has_choice, is_name_key, is_open, label_at, labels_of, labels_on}
-use Rattle.np_exposure.specs.steps.States.{IsState, are_apart, is_apart, is_named_at}
+use Rattle.np_exposure.specs.Prelude.{Choices, IsState, MentionedKey, Namespace, Pod, Side, SidedRequirement, are_apart, choices_at_first, choices_of, has_choice, is_apart, is_name_key, is_named_at, is_open, keys_on, label_at, labels_of, labels_on, same_side}
 use Rattle.np_labels.proofs.Ascending.{bytes_eq-below}
-use Rattle.np_labels.specs.DistinctAscends.{Less-from_test, distinct-ascends}
-use Rattle.np_labels.specs.Values.{is_ascending, is_below}
+use Rattle.np_labels.specs.Prelude.{Less-from_test, distinct-ascends, is_ascending, is_below}
 
 -- ---- there is a choice at each key
 

@@ -8,13 +8,9 @@ use Rattle.std.proofs.lemmas.Bool.{and_parts, and_from, false≢true, not-true, 
 use Rattle.np_base.proofs.Options.{option_or-none, is_some-or}
 use Rattle.np_exposure.proofs.SameLemmas.{same_side-equal, same_side-refl}
 use Rattle.np_exposure.proofs.WitnessLemmas.{first-among, value_of-append, named as name}
-use Rattle.np_exposure.specs.Choices.{Choices, first_found, first_label, first_stranger, has_choice, is_name_key, is_open, label_if}
-use Rattle.np_exposure.specs.Mentions.{same_side}
-use Rattle.np_exposure.specs.Strangers.{labels_at}
-use Rattle.np_exposure.specs.Types.{Namespace, Pair, Pod, Side, Stranger}
-use Rattle.np_exposure.specs.steps.States.{IsChosen, IsState, IsWitness, are_apart, is_apart, is_named_at}
-use Rattle.np_labels.specs.Labels.{value_of}
-use Rattle.np_rules.specs.Laws.{IsAmong}
+use Rattle.np_exposure.specs.Prelude.{Choices, IsChosen, IsState, IsWitness, Namespace, Pair, Pod, Side, Stranger, are_apart, first_found, first_label, first_stranger, has_choice, is_apart, is_name_key, is_named_at, is_open, label_if, labels_at, same_side}
+use Rattle.np_labels.specs.Prelude.{value_of}
+use Rattle.np_rules.specs.Prelude.{IsAmong}
 
 -- choices that are apart are not of one side and key
 apart-keys : (a b : Choices) (side : Side) → same_side a.side side ≡ true → same_side b.side side ≡ true → bytes_eq a.key b.key ≡ true → are_apart a b ≡ true → ⊥

@@ -2,7 +2,7 @@
 -- For `exposure`, `rows_can_be_told` and crates above.
 use Rattle.std.proofs.Common.{◌≡◌, ℕ, List, [], ◌∷◌, map, filter, Bool, true, false, cond, ◌&&◌, ◌||◌, Option, refl, sym, ap, ◌∙◌, subst}
 use Rattle.std.specs.List.{list_any}
-use Rattle.np_conns.specs.ConnsText.{conns_of}
+use Rattle.np_conns.specs.Prelude.{conns_of}
 use Rattle.np_conns.proofs.ConnLemmas.{conns_of-has, conns_of-well}
 use Rattle.np_exposure.proofs.BeginLemmas.{Stands-first, walked-rows_of}
 use Rattle.np_exposure.proofs.FirstLemmas.{IsState-first}
@@ -11,15 +11,8 @@ use Rattle.np_exposure.proofs.RightLemmas.{rows-one}
 use Rattle.np_exposure.proofs.RowLemmas.{IsJoined-joined}
 use Rattle.np_exposure.proofs.StandsLemmas.{answered, fits-more, walked-rows}
 use Rattle.np_exposure.proofs.StateLemmas.{IsState-narrowed, only-wanted}
-use Rattle.np_exposure.specs.Choices.{Choices, can_be_assumed, choices_at_first, choices_left, first_stranger, fits, is_open, left_at}
-use Rattle.np_exposure.specs.Mentions.{each_once, mentions, requirements}
-use Rattle.np_exposure.specs.Rows.{rows_at, rows_left, rows_of}
-use Rattle.np_exposure.specs.Strangers.{exposes, negated}
-use Rattle.np_exposure.specs.Tree.{AreRowsOf}
-use Rattle.np_exposure.specs.Types.{ExposureRow, SidedRequirement}
-use Rattle.np_exposure.specs.steps.States.{IsState, can_be, narrowed, narrowed_at, suits}
-use Rattle.np_exposure.specs.steps.Walks.{AreJoinedAt, AreWalked}
-use Rattle.np_rules.specs.PodSides.{PodSide}
+use Rattle.np_exposure.specs.Prelude.{AreJoinedAt, AreRowsOf, AreWalked, Choices, ExposureRow, IsState, SidedRequirement, can_be, can_be_assumed, choices_at_first, choices_left, each_once, exposes, first_stranger, fits, is_open, left_at, mentions, narrowed, narrowed_at, negated, requirements, rows_at, rows_left, rows_of, suits}
+use Rattle.np_rules.specs.Prelude.{PodSide}
 
 -- ---- where nothing is assumed, all choices are left
 

@@ -3,11 +3,8 @@ use Rattle.std.proofs.Common.{◌≡◌, ℕ, ◌+◌, List, [], ◌∷◌, ◌+
 use Rattle.std.proofs.lemmas.List.Sums.{fold-append}
 use Rattle.std.proofs.lemmas.List.Concat.{flat_map-append}
 use Rattle.std.specs.List.{enumerate_from, flat_map, list_any}
-use Rattle.np_exposure.specs.Mentions.{each_once, is_same, of_admin_rule, of_net_rule, of_placed, with_more}
-use Rattle.np_exposure.specs.Types.{AdminPolicy, BasePolicy, Direction, NetPolicy, SidedRequirement}
-use Rattle.np_rules.specs.model.Ends.{PodEnd}
-use Rattle.np_rules.specs.model.Places.{admin_places, admin_places_of, admin_rules_of, base_places, base_rules_of, net_places, net_places_of, net_rules_of}
-use Rattle.np_rules.specs.model.Selection.{net_selects, subject_selects}
+use Rattle.np_exposure.specs.Prelude.{AdminPolicy, BasePolicy, Direction, NetPolicy, SidedRequirement, each_once, is_same, of_admin_rule, of_net_rule, of_placed, with_more}
+use Rattle.np_rules.specs.Prelude.{PodEnd, admin_places, admin_places_of, admin_rules_of, base_places, base_rules_of, net_places, net_places_of, net_rules_of, net_selects, subject_selects}
 
 -- one list of lists after the other
 flat_map-flat_map : {X Y Z : Type 0} (f : Y → List Z) (g : X → List Y) (xs : List X) → flat_map f (flat_map g xs) ≡ flat_map (λ x. flat_map f (g x)) xs

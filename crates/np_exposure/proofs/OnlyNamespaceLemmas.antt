@@ -3,10 +3,8 @@ use Rattle.std.proofs.Common.{◌≡◌, ℕ, List, Bool, true, false, refl, sym
 use Rattle.std.specs.Str.{bytes_eq}
 use Rattle.std.specs.Cmp.Lexicographic.{bytes_decides}
 use Rattle.std.proofs.lemmas.Bool.{false≢true}
-use Rattle.np_exposure.specs.steps.OnlyNamespace.{AreOfNamespace}
-use Rattle.np_rules.specs.model.Ends.{pod, stranger_end}
-use Rattle.np_rules.specs.StrangerRules.{kept_reaches}
-use Rattle.np_exposure.specs.Types.{RuleConns, Stranger}
+use Rattle.np_exposure.specs.Prelude.{AreOfNamespace, RuleConns, Stranger}
+use Rattle.np_rules.specs.Prelude.{kept_reaches, pod, stranger_end}
 
 -- they match no stranger of another namespace
 pub is-elsewhere : (kept : RuleConns) (name own namespace : List ℕ) (s : Stranger) → AreOfNamespace name kept.rule.now.peers → own ≡ (stranger_end s).namespace → bytes_eq name own ≡ false

@@ -5,12 +5,9 @@ use Rattle.std.proofs.lemmas.Bool.{and_parts, false≢true, true≢false, not-tr
 use Rattle.np_base.proofs.Lists.{some-more}
 use Rattle.np_base.proofs.Texts.{texts-apart}
 use Rattle.np_exposure.proofs.SameLemmas.{requirement-equal, sided-equal}
-use Rattle.np_exposure.specs.PeerText.{are_well, asked_text, peer_text, requirement_text, side_text, values_text}
-use Rattle.np_exposure.specs.Types.{Absent, Namespace, NoneOf, OneOf, Op, Pod, Present, Side, SidedRequirement}
-use Rattle.np_model.specs.Words.{is_word, is_whole_word}
-use Rattle.np_labels.specs.Values.{is_ascending}
-use Rattle.np_labels.specs.WellFormed.{fits, is_well_requirement}
-use Rattle.np_model.specs.WellPolicies.{is_worded}
+use Rattle.np_exposure.specs.Prelude.{Absent, Namespace, NoneOf, OneOf, Op, Pod, Present, Side, SidedRequirement, are_well, asked_text, peer_text, requirement_text, side_text, values_text}
+use Rattle.np_model.specs.Prelude.{is_whole_word, is_word, is_worded}
+use Rattle.np_labels.specs.Prelude.{fits, is_ascending, is_well_requirement}
 use Rattle.np_model.proofs.WordLemmas.{words-cut}
 
 -- ---- values

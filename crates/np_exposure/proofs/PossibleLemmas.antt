@@ -10,12 +10,8 @@ use Rattle.np_exposure.proofs.LeftLemmas.{all-left, left-narrowed}
 use Rattle.np_exposure.proofs.ListLemmas.{All-from, list_any-at}
 use Rattle.np_exposure.proofs.StandsLemmas.{HasLike, IsDecided, Stands, Stands-more, answered, witness-assumed}
 use Rattle.np_exposure.proofs.StateLemmas.{apart-narrowed, named-narrowed}
-use Rattle.np_exposure.specs.Choices.{Choices, can_be_assumed, choices_at_first, choices_left, first_stranger, has_choice, is_open}
-use Rattle.np_exposure.specs.Strangers.{negated}
-use Rattle.np_exposure.specs.Tree.{IsPossible}
-use Rattle.np_exposure.specs.Types.{SidedRequirement, Stranger}
-use Rattle.np_exposure.specs.steps.States.{IsState, is_apart, is_named_at, narrowed}
-use Rattle.np_rules.specs.Laws.{IsAmong}
+use Rattle.np_exposure.specs.Prelude.{Choices, IsPossible, IsState, SidedRequirement, Stranger, can_be_assumed, choices_at_first, choices_left, first_stranger, has_choice, is_apart, is_named_at, is_open, narrowed, negated}
+use Rattle.np_rules.specs.Prelude.{IsAmong}
 
 -- ---- a requirement that is mentioned, or the negation of one
 

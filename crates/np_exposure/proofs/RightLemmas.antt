@@ -2,15 +2,10 @@
 use Rattle.std.proofs.Common.{◌≡◌, List, [], ◌∷◌, ◌++◌, map, Bool, true, false, not, cond, ◌&&◌, ◌||◌, Option, Some, find, refl, sym, ap, ◌∙◌, subst, codes}
 use Rattle.std.specs.List.{list_any}
 use Rattle.std.proofs.lemmas.Bool.{and_parts, and_from, false≢true, true≢false, not-true, not_from_false}
-use Rattle.np_conns.specs.Conns.{Conns, has_spot, is_spot}
-use Rattle.np_conns.specs.Spots.{equal_by_spots, has_spot-is_spot}
-use Rattle.np_exposure.specs.Types.{ExposureRow, PortSpot, SidedRequirement, Stranger}
+use Rattle.np_conns.specs.Prelude.{Conns, equal_by_spots, has_spot, has_spot-is_spot, is_spot}
+use Rattle.np_exposure.specs.Prelude.{AreRows, AreRowsAt, AreRowsOf, ExposureRow, FirstRowTells, IsAssumed, IsEachFirst, IsExposure, IsJoined, IsPossible, PortSpot, SidedRequirement, Stranger, always, apart, either, equal, is_hypothetical, meets, meets_all, meets_row, negated, never, requirements, with_first}
 use Rattle.np_exposure.proofs.StandsLemmas.{meets-negated}
-use Rattle.np_exposure.specs.Mentions.{requirements}
-use Rattle.np_exposure.specs.Right.{FirstRowTells, IsEachFirst, meets_row}
-use Rattle.np_exposure.specs.Strangers.{IsExposure, is_hypothetical, meets, meets_all, negated}
-use Rattle.np_exposure.specs.Tree.{AreRows, AreRowsAt, AreRowsOf, IsAssumed, IsJoined, IsPossible, always, apart, either, equal, never, with_first}
-use Rattle.np_rules.specs.PodSides.{PodSide}
+use Rattle.np_rules.specs.Prelude.{PodSide}
 
 -- ---- what is assumed
 

@@ -5,14 +5,10 @@ use Rattle.std.proofs.lemmas.Bool.{and_parts, and_from, eq-eqb, eqb-true, falseâ
 use lib.Pointwise.{pointwise_decides}
 use Rattle.np_base.specs.declared.range.Range.{Range}
 use Rattle.np_base.specs.Ranges.{are_same_range}
-use Rattle.np_conns.specs.Conns.{Conns}
-use Rattle.np_conns.specs.Spots.{equal_by_ranges}
-use Rattle.np_exposure.specs.Types.{ExposureRow, PortSpot, SidedRequirement}
+use Rattle.np_conns.specs.Prelude.{Conns, equal_by_ranges}
+use Rattle.np_exposure.specs.Prelude.{ExposureRow, IsJoined, PortSpot, SidedRequirement, apart, are_same_conns, are_same_row, are_same_rows, equal, is_same, joined}
 use Rattle.np_conns.specs.declared.proto.Proto.TheVariants.{Tcp, Udp, Sctp}
 use Rattle.np_exposure.proofs.SameLemmas.{is_same-equal, is_same-refl}
-use Rattle.np_exposure.specs.Mentions.{is_same}
-use Rattle.np_exposure.specs.Rows.{are_same_conns, are_same_row, are_same_rows, joined}
-use Rattle.np_exposure.specs.Tree.{IsJoined, apart, equal}
 
 -- ---- equal rows
 

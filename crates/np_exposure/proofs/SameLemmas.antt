@@ -6,9 +6,8 @@ use Rattle.std.proofs.lemmas.List.{reverse-reverse}
 use Rattle.std.specs.Str.{bytes_eq}
 use lib.Pointwise.{pointwise, pointwise_decides}
 use mathlib.Core.Bool.{Bool-set}
-use Rattle.np_exposure.specs.Mentions.{is_same, same_op, same_side}
-use Rattle.np_exposure.specs.Types.{Absent, ExposureRow, Namespace, NoneOf, OneOf, Op, Pod, Present, Requirement, Side, SidedRequirement}
-use Rattle.np_labels.specs.Values.{is_ascending}
+use Rattle.np_exposure.specs.Prelude.{Absent, ExposureRow, Namespace, NoneOf, OneOf, Op, Pod, Present, Requirement, Side, SidedRequirement, is_same, same_op, same_side}
+use Rattle.np_labels.specs.Prelude.{is_ascending}
 
 -- ---- requirements
 

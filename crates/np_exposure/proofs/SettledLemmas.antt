@@ -1,6 +1,5 @@
 -- What is known of each hypothetical pod with labels among the choices. For `KeyChoices::are`, `KeyChoices::meet` and 7 more.
-use Rattle.std.proofs.Common.{◌≡◌, ℕ, zero, suc, ◌+◌, ◌<◌, ◌≤◌, List, [], ◌∷◌, ◌++◌, length, get_or, map, take, filter, Bool, true, false, not, ◌&&◌, ◌||◌}
-use Rattle.std.proofs.Common.{Option, Some, None, IfSome, if◌then◌else◌, ◌⊎◌, refl, sym, ap, ◌∙◌, subst, inl, inr, arith}
+use Rattle.std.proofs.Common.{◌≡◌, ℕ, zero, suc, ◌+◌, ◌<◌, ◌≤◌, List, [], ◌∷◌, ◌++◌, length, get_or, map, take, filter, Bool, true, false, not, ◌&&◌, ◌||◌, Option, Some, None, IfSome, if◌then◌else◌, ◌⊎◌, refl, sym, ap, ◌∙◌, subst, inl, inr, arith}
 use Rattle.std.specs.List.{AllByRecursion, list_all, list_any}
 use Rattle.std.specs.Str.{bytes_eq}
 use Rattle.std.specs.Cmp.Lexicographic.{bytes_decides}
@@ -9,22 +8,12 @@ use Rattle.std.proofs.lemmas.List.Folds.{list_all-map, list_all_more, list_any-a
 use Rattle.std.proofs.lemmas.List.{take_all}
 use Rattle.std.proofs.Math.Bool.{or-false, or_assoc}
 use Rattle.np_base.proofs.Bools.{or-last}
-use Rattle.np_conns.specs.Conns.{has_spot}
-use Rattle.np_exposure.specs.Types.{Aside, Left, OpenRule, OpenRules, PortSpot, Side, SidedRequirement, Stranger}
+use Rattle.np_conns.specs.Prelude.{has_spot}
+use Rattle.np_exposure.specs.Prelude.{Aside, Choices, IsChosen, IsRight, IsSettled, IsStepTo, IsWitness, Left, OpenRule, OpenRules, PermitSame, PortSpot, Side, SidedRequirement, StandForAll, Stranger, labels_at, narrowed, permits, rule_matches, same_side, suits}
 use Rattle.np_exposure.proofs.ListLemmas.{All-at, list_all-at, list_any-at}
 use Rattle.np_exposure.proofs.SameLemmas.{same_side-equal}
-use Rattle.np_exposure.specs.Choices.{Choices}
-use Rattle.np_exposure.specs.Mentions.{same_side}
-use Rattle.np_exposure.specs.Strangers.{labels_at}
-use Rattle.np_exposure.specs.steps.Left.{PermitSame}
-use Rattle.np_exposure.specs.steps.Settled.{IsRight, IsSettled, StandForAll, permits, rule_matches}
-use Rattle.np_exposure.specs.steps.States.{IsChosen, IsWitness, narrowed, suits}
-use Rattle.np_exposure.specs.steps.Walks.{IsStepTo}
-use Rattle.np_labels.specs.Labels.{value_of}
-use Rattle.np_rules.specs.model.Ends.{pod, stranger_end}
-use Rattle.np_rules.specs.Laws.{IsAmong}
-use Rattle.np_rules.specs.PodSides.{PodSide, near_pod}
-use Rattle.np_rules.specs.StrangerRules.{kept_reaches}
+use Rattle.np_labels.specs.Prelude.{value_of}
+use Rattle.np_rules.specs.Prelude.{IsAmong, PodSide, kept_reaches, near_pod, pod, stranger_end}
 
 -- ---- the choices at a key
 

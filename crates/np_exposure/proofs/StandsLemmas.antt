@@ -6,22 +6,13 @@ use Rattle.std.specs.Str.{bytes_eq}
 use Rattle.std.specs.Cmp.Lexicographic.{bytes_decides}
 use Rattle.std.proofs.lemmas.Bool.{and_parts, and_from, false≢true}
 use Rattle.np_base.proofs.Each.{All-weaker}
-use Rattle.np_conns.specs.Conns.{Conns}
+use Rattle.np_conns.specs.Prelude.{Conns}
 use Rattle.np_exposure.proofs.ExposureLemmas.{Agree, exposes-same}
 use Rattle.np_exposure.proofs.ListLemmas.{All-at, IsAmong-filter, list_all-at, list_all-from, list_any-at}
 use Rattle.np_exposure.proofs.SameLemmas.{same_side-equal}
-use Rattle.np_exposure.specs.Mentions.{mentions, same_side}
-use Rattle.np_exposure.specs.Strangers.{IsExposure, is_hypothetical, labels_at, meets, meets_all, negated}
-use Rattle.np_exposure.specs.Tree.{AreRows, AreRowsAt, HasExposure, IsAssumed, IsPossible, always, either, never}
-use Rattle.np_exposure.specs.Weight.{looks_at}
-use Rattle.np_exposure.specs.Types.{Absent, ExposureRow, NoneOf, OneOf, Op, Present, Side, SidedRequirement, Stranger}
-use Rattle.np_exposure.specs.Choices.{Choices, allows_found, fits}
-use Rattle.np_exposure.specs.steps.States.{IsChosen, IsWitness, as_wanted, can_be, is_at, narrowed, suits}
-use Rattle.np_exposure.specs.steps.Walks.{AreJoinedAt, AreWalked}
-use Rattle.np_labels.specs.Labels.{value_of}
-use Rattle.np_labels.specs.Selectors.{allows, opposite_of}
-use Rattle.np_rules.specs.Laws.{IsAmong}
-use Rattle.np_rules.specs.PodSides.{PodSide}
+use Rattle.np_exposure.specs.Prelude.{Absent, AreJoinedAt, AreRows, AreRowsAt, AreWalked, Choices, ExposureRow, HasExposure, IsAssumed, IsChosen, IsExposure, IsPossible, IsWitness, NoneOf, OneOf, Op, Present, Side, SidedRequirement, Stranger, allows_found, always, as_wanted, can_be, either, fits, is_at, is_hypothetical, labels_at, looks_at, meets, meets_all, mentions, narrowed, negated, never, same_side, suits}
+use Rattle.np_labels.specs.Prelude.{allows, opposite_of, value_of}
+use Rattle.np_rules.specs.Prelude.{IsAmong, PodSide}
 
 -- ---- requirements and their negations
 

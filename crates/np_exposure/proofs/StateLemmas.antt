@@ -5,12 +5,7 @@ use Rattle.std.specs.Str.{bytes_eq}
 use Rattle.std.specs.Cmp.Lexicographic.{bytes_decides}
 use Rattle.std.proofs.lemmas.Bool.{and_parts, and_from, or_parts, false≢true, true≢false, not_from_true}
 use Rattle.np_exposure.proofs.SameLemmas.{same_side-equal, same_side-refl}
-use Rattle.np_exposure.specs.Mentions.{same_side}
-use Rattle.np_exposure.specs.Weight.{looks_at}
-use Rattle.np_exposure.specs.Types.{Aside, Side, SidedRequirement}
-use Rattle.np_exposure.specs.Choices.{Choices, allows_found, has_choice, is_name_key, is_open}
-use Rattle.np_exposure.specs.steps.States.{IsState, are_apart, as_wanted, can_be, is_apart, is_named_at, narrowed, narrowed_at, suits}
-use Rattle.np_exposure.specs.steps.Walks.{IsFork, IsStepTo}
+use Rattle.np_exposure.specs.Prelude.{Aside, Choices, IsFork, IsState, IsStepTo, Side, SidedRequirement, allows_found, are_apart, as_wanted, can_be, has_choice, is_apart, is_name_key, is_named_at, is_open, looks_at, narrowed, narrowed_at, same_side, suits}
 
 -- ---- what is left of a state is one
 

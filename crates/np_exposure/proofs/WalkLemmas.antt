@@ -2,12 +2,8 @@
 use Rattle.std.proofs.Common.{◌≡◌, List, [], ◌∷◌, ◌++◌, Bool, true, false, not, Option, Some, None, sym, subst, length, arith}
 use Rattle.std.proofs.lemmas.Bool.{false≢true, true≢false}
 use Rattle.np_exposure.proofs.FillLemmas.{Fills-last}
-use Rattle.np_exposure.specs.Tree.{IsJoined}
-use Rattle.np_exposure.specs.Types.{Aside, ExposureRow, Pending, SidedRequirement}
-use Rattle.np_exposure.specs.Choices.{Choices}
-use Rattle.np_exposure.specs.steps.States.{can_be, narrowed}
-use Rattle.np_exposure.specs.steps.Walks.{AreJoinedAt, AreWalked, Fills, IsJoinedBy, IsLeaf, IsStepTo}
-use Rattle.np_rules.specs.PodSides.{PodSide}
+use Rattle.np_exposure.specs.Prelude.{AreJoinedAt, AreWalked, Aside, Choices, ExposureRow, Fills, IsJoined, IsJoinedBy, IsLeaf, IsStepTo, Pending, SidedRequirement, can_be, narrowed}
+use Rattle.np_rules.specs.Prelude.{PodSide}
 
 module _ (asked : SidedRequirement) (Met Unmet : List ExposureRow → Type 0) (rows : List ExposureRow) where
   only-met : (can_meet can_miss : Bool) → can_meet ≡ true → can_miss ≡ false → Met rows → AreJoinedAt asked can_meet can_miss Met Unmet rows

@@ -3,8 +3,7 @@ use Rattle.std.proofs.Common.{◌≡◌, ℕ, zero, suc, ◌+◌, ◌*◌, ◌�
 use Rattle.std.proofs.Math.Nat.{le-mul_of_pos_right, mul-le-mul_left, mul_assoc, mul_comm, one-le-mul}
 use Rattle.std.proofs.lemmas.Bool.{cases_lt}
 use Rattle.std.proofs.lemmas.List.{map-append, take_more}
-use Rattle.np_exposure.specs.Weight.{keys_on, patterns_at, patterns_on, product, weight}
-use Rattle.np_exposure.specs.Types.{Namespace, Pod, Side, SidedRequirement}
+use Rattle.np_exposure.specs.Prelude.{Namespace, Pod, Side, SidedRequirement, keys_on, patterns_at, patterns_on, product, weight}
 
 min_low : (a m : ℕ) → a ≤ m → min a m ≡ a
 min_low a m low = omega arith

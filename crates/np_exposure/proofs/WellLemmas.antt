@@ -3,23 +3,14 @@ use Rattle.std.proofs.Common.{◌≡◌, ℕ, List, [], ◌∷◌, ◌++◌, len
 use Rattle.std.specs.List.{list_all, list_any}
 use Rattle.std.specs.Option.{option_map_or}
 use Rattle.std.proofs.lemmas.Bool.{and_parts, and_from}
-use Rattle.np_model.specs.Lawful.{is_well}
+use Rattle.np_model.specs.Prelude.{has_slash, is_name, is_well, is_well_admin_peer, is_well_admin_policy, is_well_admin_rule, is_well_base_policy, is_well_base_rule, is_well_net_peer, is_well_net_policy, is_well_net_rule, is_word, is_worded, option_all}
 use Rattle.np_exposure.proofs.MentionLemmas.{admin_mentions, base_mentions, net_mentions, of_admin_policy, of_net_policy}
-use Rattle.np_exposure.specs.Mentions.{is_same, mentions, named, of_admin_peer, of_admin_rule, of_namespaces, of_net_peer, of_net_rule, of_optional, of_placed, of_selector, requirements, with_more}
-use Rattle.np_exposure.specs.PeerText.{are_well}
-use Rattle.np_exposure.specs.Strangers.{negated}
-use Rattle.np_exposure.specs.Tree.{AreRows, AreRowsAt, AreRowsOf, IsJoined, IsPossible, always, apart, either, equal, never, with_first}
-use Rattle.np_exposure.specs.Types.{AdminPeer, AdminPolicy, AdminRule, BasePolicy, Direction, Egress, ExposureRow, Ingress, Namespace, NetPeer, NetPolicy, NetRule, Pod, Requirement, Selector, Side, SidedRequirement}
-use Rattle.np_model.specs.Words.{has_slash, is_name, is_word}
+use Rattle.np_exposure.specs.Prelude.{AdminPeer, AdminPolicy, AdminRule, AreRows, AreRowsAt, AreRowsOf, BasePolicy, Direction, Egress, ExposureRow, Ingress, IsJoined, IsPossible, Namespace, NetPeer, NetPolicy, NetRule, Pod, Requirement, Selector, Side, SidedRequirement, always, apart, are_well, either, equal, is_same, mentions, named, negated, never, of_admin_peer, of_admin_rule, of_namespaces, of_net_peer, of_net_rule, of_optional, of_placed, of_selector, requirements, with_first, with_more}
 use Rattle.np_labels.specs.WellFormed as labels
-use Rattle.np_model.specs.WellPolicies.{is_well_admin_peer, is_well_admin_policy, is_well_admin_rule, is_well_base_policy, is_well_base_rule, is_well_net_peer, is_well_net_policy, is_well_net_rule, is_well_selector, is_worded}
+use Rattle.np_model.specs.WellPolicies.{is_well_selector}
 use Rattle.np_model.specs.declared.admin_policy.AdminPeer.TheVariants as admin
 use Rattle.np_model.specs.declared.network_policy.NetPeer.TheVariants as net
-use Rattle.np_model.specs.WellObjects.{option_all}
-use Rattle.np_rules.specs.model.Ends.{PodEnd}
-use Rattle.np_rules.specs.model.Places.{admin_places, admin_rules_of, base_places, base_rules_of, net_places, net_rules_of}
-use Rattle.np_rules.specs.PodSides.{PodSide, near_pod}
-use Rattle.np_rules.specs.model.Selection.{net_selects, subject_selects}
+use Rattle.np_rules.specs.Prelude.{PodEnd, PodSide, admin_places, admin_rules_of, base_places, base_rules_of, near_pod, net_places, net_rules_of, net_selects, subject_selects}
 
 -- ---- lists
 

@@ -8,13 +8,9 @@ use Rattle.std.proofs.lemmas.Bool.{and_parts, and_from, false≢true, true≢fal
 use Rattle.std.proofs.lemmas.List.{reverse-append}
 use Rattle.np_base.proofs.Options.{is_some-or}
 use Rattle.np_exposure.proofs.SameLemmas.{same_side-equal, same_side-refl}
-use Rattle.np_exposure.specs.Mentions.{same_side}
-use Rattle.np_exposure.specs.Strangers.{is_hypothetical, labels_at}
-use Rattle.np_exposure.specs.Types.{Namespace, Pair, Pod, Side, Stranger}
-use Rattle.np_exposure.specs.Choices.{Choices, first_found, first_label, has_choice, is_name_key, is_open, label_if}
-use Rattle.np_exposure.specs.steps.States.{IsChosen, IsState, IsWitness, are_apart, is_apart, is_named_at}
-use Rattle.np_labels.specs.Labels.{last_value_of, value_of}
-use Rattle.np_rules.specs.Laws.{IsAmong}
+use Rattle.np_exposure.specs.Prelude.{Choices, IsChosen, IsState, IsWitness, Namespace, Pair, Pod, Side, Stranger, are_apart, first_found, first_label, has_choice, is_apart, is_hypothetical, is_name_key, is_named_at, is_open, label_if, labels_at, same_side}
+use Rattle.np_labels.specs.Prelude.{last_value_of, value_of}
+use Rattle.np_rules.specs.Prelude.{IsAmong}
 
 pub value_of-append : (xs ys : List Pair) (key : List ℕ) → value_of (xs ++ ys) key ≡ option_or (value_of xs key) (value_of ys key)
 value_of-append [] ys key = refl

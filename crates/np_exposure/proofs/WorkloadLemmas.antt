@@ -1,26 +1,18 @@
 -- The pods of a workload have one list of rows. For `workloads_stand_for_their_pods_to_strangers` and crates above.
 use Rattle.std.proofs.Common.{◌≡◌, ◌<◌, ℕ, List, [], ◌∷◌, Some, length, slice_get, sym, ap, subst, ◌∙◌, Option}
 use Rattle.std.specs.Option.{option_map_or}
-use Rattle.np_labels.specs.Labels.{AgreeOn}
+use Rattle.np_labels.specs.Prelude.{AgreeOn}
 use Rattle.np_labels.proofs.Agreed.{All-from_listed}
 use Rattle.np_base.proofs.Lists.{slice_get-some}
-use Rattle.np_exposure.specs.Types.{Direction, EstateLists, ExposureRow, PortSpot, SidedRequirement, Stranger}
+use Rattle.np_exposure.specs.Prelude.{Direction, EstateLists, ExposureRow, PortSpot, SidedRequirement, Stranger, can_be_assumed, choices_left, each_once, exposes, first_stranger, mentions, negated, row_of, rows_at, rows_left, rows_of}
 use Rattle.np_conns.proofs.ConnLemmas.{conns_of-agrees}
-use Rattle.np_model.specs.Lawful.{IsLawful}
+use Rattle.np_model.specs.Prelude.{IsLawful}
 use Rattle.np_model.specs.declared.pod.Pod.{Pod}
 use Rattle.np_exposure.proofs.AlikePodLemmas.{AreAlikePods, exposes-agree, mentions-agree}
-use Rattle.np_exposure.specs.Choices.{can_be_assumed, choices_left, first_stranger}
-use Rattle.np_exposure.specs.Mentions.{each_once, mentions}
-use Rattle.np_exposure.specs.Rows.{row_of, rows_at, rows_left, rows_of}
-use Rattle.np_exposure.specs.Strangers.{exposes, negated}
 use Rattle.np_fold.proofs.NamespaceLemmas.{labels_agree}
 use Rattle.np_fold.proofs.WorkloadLemmas.{one_workload}
-use Rattle.np_fold.specs.Alike.{IsSameKind}
-use Rattle.np_fold.specs.Keys.{keys_of_estate}
-use Rattle.np_fold.specs.Workloads.{number_of}
-use Rattle.np_rules.specs.model.Ends.{PodEnd, pod_end}
-use Rattle.np_rules.specs.PodSides.{PodSide, side_of}
-use Rattle.np_rules.specs.model.Verdict.{no_pod, pod_at}
+use Rattle.np_fold.specs.Prelude.{IsSameKind, keys_of_estate, number_of}
+use Rattle.np_rules.specs.Prelude.{PodEnd, PodSide, no_pod, pod_at, pod_end, side_of}
 
 -- ---- sides that mention the same and expose alike
 

@@ -5,7 +5,7 @@ use Rattle.std.specs.Str.{bytes_eq}
 use Rattle.np_exposure.specs.Mentions.{same_side}
 use Rattle.np_exposure.specs.Weight.{keys_on, looks_at, values_at}
 use Rattle.np_exposure.specs.Types.{MentionedKey, Namespace, Pair, Pod, Side, SidedRequirement, Stranger}
-use Rattle.np_labels.specs.Selectors.{allows}
+use Rattle.np_labels.specs.Prelude.{allows}
 
 -- what may be found at a key of a side's labels: one of these values, or none
 pub record Choices : Type 0 where

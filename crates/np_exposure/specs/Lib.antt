@@ -1,10 +1,11 @@
 pub mod Choices
 pub mod Mentions
 pub mod PeerText
+pub mod Prelude
 pub mod Right
 pub mod Rows
+pub mod steps
 pub mod Strangers
 pub mod Tree
 pub mod Types
 pub mod Weight
-pub mod steps

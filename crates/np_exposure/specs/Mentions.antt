@@ -5,11 +5,10 @@ use Rattle.std.specs.Option.{option_map_or}
 use Rattle.std.specs.Str.{bytes_eq}
 use lib.Pointwise.{pointwise}
 use Rattle.np_exposure.specs.Types.{Absent, AdminPeer, AdminRule, Namespace, NetPeer, NetRule, NoneOf, OneOf, Op, Pod, Present, Selector, Side, SidedRequirement}
-use Rattle.np_labels.specs.Selectors.{label_requirement}
+use Rattle.np_labels.specs.Prelude.{label_requirement}
 use Rattle.np_model.specs.declared.admin_policy.AdminPeer.TheVariants as admin
 use Rattle.np_model.specs.declared.network_policy.NetPeer.TheVariants as net
-use Rattle.np_rules.specs.model.Places.{PlacedNetRule, admin_places, base_places, net_places}
-use Rattle.np_rules.specs.PodSides.{PodSide, near_pod}
+use Rattle.np_rules.specs.Prelude.{PlacedNetRule, PodSide, admin_places, base_places, near_pod, net_places}
 
 -- ---- what a peer mentions: first on the side of the namespace, then on the side of the pod
 

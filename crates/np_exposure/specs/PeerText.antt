@@ -2,8 +2,8 @@
 use Rattle.std.specs.Prelude.{ℕ, List, [], ◌∷◌, ◌++◌, Bool, ◌&&◌, codes}
 use Rattle.std.specs.List.{join_by, list_all}
 use Rattle.np_exposure.specs.Types.{Absent, Namespace, NoneOf, OneOf, Op, Pod, Present, Side, SidedRequirement}
-use Rattle.np_labels.specs.WellFormed.{is_well_requirement}
-use Rattle.np_model.specs.WellPolicies.{is_worded}
+use Rattle.np_labels.specs.Prelude.{is_well_requirement}
+use Rattle.np_model.specs.Prelude.{is_worded}
 
 abbrev pub side_text : Side → List ℕ
 side_text Namespace = codes "namespace"

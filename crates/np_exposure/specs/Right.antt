@@ -2,7 +2,7 @@
 use Rattle.std.specs.Prelude.{◌≡◌, List, [], ◌∷◌, find, Bool, Some, not, ◌&&◌, IsTrue}
 use Rattle.np_exposure.specs.Strangers.{IsExposure, meets_all}
 use Rattle.np_exposure.specs.Types.{ExposureRow, Stranger}
-use Rattle.np_rules.specs.PodSides.{PodSide}
+use Rattle.np_rules.specs.Prelude.{PodSide}
 
 -- whether a stranger meets a row
 abbrev pub meets_row : ExposureRow → Stranger → Bool

@@ -3,14 +3,13 @@
 use Rattle.std.specs.Prelude.{List, [], ◌∷◌, ◌++◌, map, Bool, true, false, ◌&&◌, if◌then◌else◌}
 use Rattle.std.specs.Cmp.Lexicographic.{pointwise}
 use Rattle.np_base.specs.Ranges.{are_same_range}
-use Rattle.np_conns.specs.Conns.{Conns}
-use Rattle.np_conns.specs.ConnsText.{conns_of}
+use Rattle.np_conns.specs.Prelude.{Conns, conns_of}
 use Rattle.np_exposure.specs.Choices.{can_be_assumed, choices_left, first_stranger}
 use Rattle.np_exposure.specs.Mentions.{is_same, mentions, requirements}
 use Rattle.np_exposure.specs.Strangers.{exposes, negated}
 use Rattle.np_exposure.specs.Tree.{with_first}
 use Rattle.np_exposure.specs.Types.{ExposureRow, SidedRequirement, Stranger}
-use Rattle.np_rules.specs.PodSides.{PodSide}
+use Rattle.np_rules.specs.Prelude.{PodSide}
 
 -- ---- whether rows are equal
 

@@ -1,12 +1,10 @@
 -- Pods that nobody has written yet, what requirements ask of them, and what a pod's side says of them.
 use Rattle.std.specs.Prelude.{◌≡◌, List, Bool, true, is_some, codes}
 use Rattle.std.specs.List.{list_all}
-use Rattle.np_conns.specs.Conns.{Conns, IsConns, has_spot, is_spot}
+use Rattle.np_conns.specs.Prelude.{Conns, IsConns, has_spot, is_spot}
 use Rattle.np_exposure.specs.Types.{Namespace, Pair, Pod, PortSpot, Side, SidedRequirement, Stranger}
-use Rattle.np_labels.specs.Labels.{value_of}
-use Rattle.np_labels.specs.Selectors.{meets_requirement, negation_of}
-use Rattle.np_rules.specs.PodSides.{PodSide, near_pod, with_stranger}
-use Rattle.np_rules.specs.model.Sides.{side_allows}
+use Rattle.np_labels.specs.Prelude.{meets_requirement, negation_of, value_of}
+use Rattle.np_rules.specs.Prelude.{PodSide, near_pod, side_allows, with_stranger}
 
 -- Whether the labels of its namespace say the namespace's name. A hypothetical pod is any stranger of which they do.
 abbrev pub is_hypothetical : Stranger → Bool

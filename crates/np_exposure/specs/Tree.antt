@@ -1,10 +1,10 @@
 -- The rows that the mentioned requirements give, one requirement after the other.
 use Rattle.std.specs.Prelude.{◌≡◌, ◌≢◌, List, [], ◌∷◌, ◌++◌, map, IsTrue, ◌&&◌}
-use Rattle.np_conns.specs.Conns.{Conns}
+use Rattle.np_conns.specs.Prelude.{Conns}
 use Rattle.np_exposure.specs.Mentions.{requirements}
 use Rattle.np_exposure.specs.Strangers.{IsExposure, is_hypothetical, meets_all, negated}
 use Rattle.np_exposure.specs.Types.{ExposureRow, SidedRequirement, Stranger}
-use Rattle.np_rules.specs.PodSides.{PodSide}
+use Rattle.np_rules.specs.Prelude.{PodSide}
 
 -- the stranger is a hypothetical pod that meets what is assumed
 abbrev pub IsAssumed : List SidedRequirement → Stranger → Type 0

@@ -6,7 +6,7 @@ use Rattle.np_exposure.specs.declared.exposure_fault.ExposureFault.{ExposureFaul
 use Rattle.np_exposure.specs.declared.exposure_fault.ExposureFault.TheVariants.{TooManyPatterns, NoMemory}
 use Rattle.np_exposure.specs.declared.exposures.TheConstants.{MOST_PATTERNS}
 use Rattle.np_exposure.specs.Types.{Namespace, Pod, Side, SidedRequirement}
-use Rattle.np_labels.specs.Values.{distinct}
+use Rattle.np_labels.specs.Prelude.{distinct}
 
 -- the keys that are mentioned on a side, in the order of their bytes, each once
 unfoldable pub keys_on : Side → List SidedRequirement → List (List ℕ)

@@ -1,8 +1,7 @@
 //! A rule of a NetworkPolicy, as the walk asks it.
 ghost use Rattle.std.specs.Prelude.{◌≡◌, IfOk};
 ghost use Rattle.np_exposure.specs.steps.Settled.{IsSettled};
-ghost use Rattle.np_rules.specs.StrangerRules.{kept_reaches};
-ghost use Rattle.np_rules.specs.model.Ends.{pod, stranger_end};
+ghost use Rattle.np_rules.specs.Prelude.{kept_reaches, pod, stranger_end};
 
 use crate::choices::KeyChoices;
 use crate::key_set::KeySet;

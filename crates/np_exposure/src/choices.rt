@@ -9,9 +9,8 @@ ghost use Rattle.np_exposure.specs.Strangers.{labels_at};
 ghost use Rattle.np_exposure.specs.steps.Settled.{IsRight};
 ghost use Rattle.np_exposure.specs.steps.States as states;
 ghost use Rattle.np_exposure.specs.steps.States.{IsWitness};
-ghost use Rattle.np_labels.specs.Labels.{value_of};
-ghost use Rattle.np_labels.specs.Selectors.{allows};
-ghost use Rattle.np_rules.specs.Laws.{IsAmong};
+ghost use Rattle.np_labels.specs.Prelude.{allows, value_of};
+ghost use Rattle.np_rules.specs.Prelude.{IsAmong};
 ghost use Rattle.np_rules.specs.declared.stranger.Stranger.{Stranger};
 
 use crate::mentioned_key::MentionedKey;

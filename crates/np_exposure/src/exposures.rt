@@ -1,14 +1,7 @@
 //! The exposure of a pod.
 ghost use Rattle.std.specs.Prelude.{◌≡◌, ◌≤◌, ◌<◌, length, map, IfErr, IfOk, IsTrue, OnOk};
-ghost use Rattle.np_exposure.specs.Choices.{choices_at_first, choices_of};
-ghost use Rattle.np_exposure.specs.Mentions.{each_once, mentions};
-ghost use Rattle.np_exposure.specs.Rows.{rows_of};
-ghost use Rattle.np_exposure.specs.Tree.{AreRowsOf};
-ghost use Rattle.np_exposure.specs.Weight.{IsWeightFault, weight};
-ghost use Rattle.np_exposure.specs.steps.States.{IsState, are_at};
-ghost use Rattle.np_exposure.specs.steps.Walks.{AreWalked};
-ghost use Rattle.np_rules.specs.PodSides.{side_of};
-ghost use Rattle.np_rules.specs.StrangerRules.{IsNetOf};
+ghost use Rattle.np_exposure.specs.Prelude.{AreRowsOf, AreWalked, IsState, IsWeightFault, are_at, choices_at_first, choices_of, each_once, mentions, rows_of, weight};
+ghost use Rattle.np_rules.specs.Prelude.{IsNetOf, side_of};
 
 use crate::asked_rule::{AskedRule, asked_rules};
 use crate::choices::{KeyChoices, all_choices};

@@ -4,12 +4,10 @@ ghost use Rattle.std.specs.Prelude.{◌&&◌, ◌||◌, Bool};
 ghost use Rattle.std.specs.List.{list_any};
 ghost use Rattle.std.specs.Option.{option_copied};
 ghost use Rattle.std.specs.Str.{bytes_eq};
-ghost use Rattle.np_exposure.specs.Strangers.{labels_at};
-ghost use Rattle.np_exposure.specs.steps.Settled.{IsRight, IsSettled};
-ghost use Rattle.np_labels.specs.Selectors.{meets_requirement, meets_selector};
-ghost use Rattle.np_rules.specs.model.Ends.{pod, stranger_end};
+ghost use Rattle.np_exposure.specs.Prelude.{IsRight, IsSettled, labels_at};
+ghost use Rattle.np_labels.specs.Prelude.{meets_requirement, meets_selector};
+ghost use Rattle.np_rules.specs.Prelude.{none_or_any, pod, stranger_end};
 ghost use Rattle.np_rules.specs.model.Peers as spec;
-ghost use Rattle.np_rules.specs.model.Rules.{none_or_any};
 
 use crate::choices::{KeyChoices, choices_at};
 use crate::side::Side;

@@ -2,22 +2,14 @@
 ghost use Rattle.std.specs.Prelude.{◌≡◌, ◌<◌, ◌≤◌, ◌↔◌, ◌++◌, ℕ, List, length, map, true};
 ghost use Rattle.std.specs.List.{AllByRecursion, list_all};
 ghost use Rattle.np_conns.specs.declared.port_spot.PortSpot.{PortSpot};
-ghost use Rattle.np_model.specs.Lawful.{IsLawful, is_well};
+ghost use Rattle.np_model.specs.Prelude.{IsLawful, is_well};
 ghost use Rattle.np_model.specs.declared.lists.EstateLists.{EstateLists};
-ghost use Rattle.np_exposure.specs.Choices.{can_be_assumed};
-ghost use Rattle.np_exposure.specs.Mentions.{mentions};
-ghost use Rattle.np_exposure.specs.PeerText.{are_well, peer_text};
-ghost use Rattle.np_exposure.specs.Right.{FirstRowTells, IsEachFirst};
-ghost use Rattle.np_exposure.specs.Strangers.{exposes, is_hypothetical, meets, negated};
-ghost use Rattle.np_exposure.specs.Rows.{rows_of};
-ghost use Rattle.np_exposure.specs.Tree.{AreRowsOf, IsPossible};
-ghost use Rattle.np_exposure.specs.Weight.{weight};
+ghost use Rattle.np_exposure.specs.Prelude.{AreRowsOf, FirstRowTells, IsEachFirst, IsPossible, are_well, can_be_assumed, exposes, is_hypothetical, meets, mentions, negated, peer_text, rows_of, weight};
 ghost use Rattle.np_exposure.specs.declared.exposure_row.ExposureRow.{ExposureRow};
 ghost use Rattle.np_exposure.specs.declared.sided_requirement.SidedRequirement.{SidedRequirement};
-ghost use Rattle.np_fold.specs.Workloads.{number_of};
+ghost use Rattle.np_fold.specs.Prelude.{number_of};
 ghost use Rattle.np_model.specs.declared.direction.Direction.{Direction};
-ghost use Rattle.np_rules.specs.Laws.{IsAmong};
-ghost use Rattle.np_rules.specs.PodSides.{PodSide, side_of};
+ghost use Rattle.np_rules.specs.Prelude.{IsAmong, PodSide, side_of};
 ghost use Rattle.np_rules.specs.declared.stranger.Stranger.{Stranger};
 
 /// Hypothetical pods that meet the same mentioned requirements have the same exposure.

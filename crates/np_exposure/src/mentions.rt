@@ -2,9 +2,8 @@
 ghost use Rattle.std.specs.Prelude.{◌≡◌, ◌++◌, ◌∷◌, [], ◌<◌, flat_map, length, unwrap_or, if◌then◌else◌, IfOk, OnOk};
 ghost use Rattle.std.specs.Option.{option_copied};
 ghost use Rattle.np_exposure.specs.Mentions as spec;
-ghost use Rattle.np_rules.specs.model.Ends.{pod_end};
+ghost use Rattle.np_rules.specs.Prelude.{pod_end, side_of};
 ghost use Rattle.np_rules.specs.model.Places as places;
-ghost use Rattle.np_rules.specs.PodSides.{side_of};
 ghost use Rattle.np_rules.specs.model.Selection as selection;
 
 use crate::side::Side;

@@ -1,8 +1,7 @@
 //! The one namespace of which a rule of a NetworkPolicy speaks by its name.
 ghost use Rattle.std.specs.Prelude.{◌≡◌, ◌∷◌, [], List, true, Some, IfSome, codes};
-ghost use Rattle.np_exposure.specs.steps.OnlyNamespace.{AreOfNamespace};
-ghost use Rattle.np_labels.specs.Labels.{value_of};
-ghost use Rattle.np_labels.specs.Selectors.{meets_requirement, meets_selector};
+ghost use Rattle.np_exposure.specs.Prelude.{AreOfNamespace};
+ghost use Rattle.np_labels.specs.Prelude.{meets_requirement, meets_selector, value_of};
 ghost use Rattle.np_labels.specs.declared.pair.Pair.{Pair};
 
 use crate::choices::is_name_key;

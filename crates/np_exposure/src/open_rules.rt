@@ -1,13 +1,12 @@
 //! The rules of NetworkPolicies, as far as the choices that are left settle them.
 ghost use Rattle.std.specs.Prelude.{◌≡◌, ◌||◌, ℕ, List, [], IfOk, OnOk};
 ghost use Rattle.std.specs.List.{list_any};
-ghost use Rattle.np_conns.specs.Conns.{has_spot};
+ghost use Rattle.np_conns.specs.Prelude.{has_spot};
 ghost use Rattle.np_conns.specs.declared.port_spot.PortSpot.{PortSpot};
 ghost use Rattle.np_exposure.specs.steps.Settled.{StandFor, permits, rule_matches};
 ghost use Rattle.np_exposure.specs.steps.States.{IsWitness};
-ghost use Rattle.np_rules.specs.StrangerRules.{IsNetOf};
+ghost use Rattle.np_rules.specs.Prelude.{IsNetOf, stranger_end};
 ghost use Rattle.np_rules.specs.declared.stranger.Stranger.{Stranger};
-ghost use Rattle.np_rules.specs.model.Ends.{stranger_end};
 
 use crate::asked_rule::AskedRule;
 use crate::choices::{KeyChoices, count, is_decided};

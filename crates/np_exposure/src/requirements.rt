@@ -1,7 +1,7 @@
 //! The mentioned requirements, each once.
 ghost use Rattle.std.specs.Prelude.{◌≡◌, IfOk};
 ghost use Rattle.std.specs.List.{list_any};
-ghost use Rattle.np_exposure.specs.Mentions.{each_once, is_same};
+ghost use Rattle.np_exposure.specs.Prelude.{each_once, is_same};
 
 use crate::sided_requirement::SidedRequirement;
 use np_base::NoMemory;

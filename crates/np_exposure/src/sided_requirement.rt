@@ -1,7 +1,7 @@
 //! A requirement on the labels of a pod or of its namespace.
 ghost use Rattle.std.specs.Prelude.{◌≡◌};
 ghost use Rattle.std.specs.Option.{option_map};
-ghost use Rattle.np_labels.specs.Selectors.{allows, is_listed};
+ghost use Rattle.np_labels.specs.Prelude.{allows, is_listed};
 
 use crate::side::Side;
 use np_base::{NoMemory, TryCopy};

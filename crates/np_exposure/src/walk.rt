@@ -1,10 +1,7 @@
 //! The walk over the requirements.
 ghost use Rattle.std.specs.Prelude.{◌≡◌, ◌≤◌, IfOk, IsTrue};
-ghost use Rattle.np_exposure.specs.Strangers.{IsExposure};
-ghost use Rattle.np_exposure.specs.steps.Settled.{StandFor, StandForAll};
-ghost use Rattle.np_exposure.specs.steps.States.{IsState, are_at};
+ghost use Rattle.np_exposure.specs.Prelude.{AreWalked, IsExposure, IsLeaf, IsState, StandFor, StandForAll, are_at};
 ghost use Rattle.np_exposure.specs.steps.Walks as walks;
-ghost use Rattle.np_exposure.specs.steps.Walks.{AreWalked, IsLeaf};
 
 use crate::choices::{KeyChoices, is_decided};
 use crate::open_row::OpenRow;

@@ -1,8 +1,8 @@
 //! How many patterns of labels the mentioned requirements may tell apart.
 ghost use Rattle.std.specs.Prelude.{◌≡◌, ◌+◌, ◌*◌, ◌-◌, ◌^◌, ◌<◌, length, min, IfOk};
-ghost use Rattle.np_exposure.specs.Mentions.{mentions};
+ghost use Rattle.np_exposure.specs.Prelude.{mentions};
 ghost use Rattle.np_exposure.specs.Weight as spec;
-ghost use Rattle.np_rules.specs.PodSides.{side_of};
+ghost use Rattle.np_rules.specs.Prelude.{side_of};
 
 use crate::labels::{keys_on, values_at};
 use crate::mentions::mentions;

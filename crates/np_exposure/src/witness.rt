@@ -1,8 +1,8 @@
 //! A hypothetical pod with labels among the choices.
 ghost use Rattle.std.specs.Prelude.{◌≡◌, [], ◌∷◌, ◌++◌, ℕ, List, IfOk, OnOk, flat_map};
 ghost use Rattle.np_exposure.specs.Choices as spec;
-ghost use Rattle.np_exposure.specs.steps.States.{IsState, IsWitness};
-ghost use Rattle.np_labels.specs.Labels.{last_value_of, value_of};
+ghost use Rattle.np_exposure.specs.Prelude.{IsState, IsWitness};
+ghost use Rattle.np_labels.specs.Prelude.{last_value_of, value_of};
 
 use crate::choices::KeyChoices;
 use crate::side::Side;

@@ -4,30 +4,21 @@ use Rattle.std.specs.List.{AllByRecursion, list_any}
 use Rattle.std.proofs.lemmas.Bool.{and_from, cases_lt, le-leb, lt-leb, true≢false}
 use Rattle.std.proofs.lemmas.List.Folds.{list_any-append}
 use Rattle.np_addr.proofs.RightPrefixes.{prefixes_of-right}
-use Rattle.np_addr.specs.Addresses.{cidr_has}
-use Rattle.np_addr.specs.Blocks.{IsAddressSet, block_has, set_has}
-use Rattle.np_addr.specs.Prefixes.{prefixes_of, some_has}
+use Rattle.np_addr.specs.Prelude.{IsAddressSet, block_has, cidr_has, prefixes_of, set_has, some_has}
 use Rattle.np_addr.specs.declared.address.Address.{Address}
 use Rattle.np_addr.specs.declared.address.Address.TheVariants as address
-use Rattle.np_flatten.specs.Types.{AddressRow, AddressSpan, Block, Family, NetPeer, NetRule, PortSpot, Proto, Sctp, Tcp, Udp}
+use Rattle.np_flatten.specs.Prelude.{AddressRow, AddressSpan, Block, Family, NetPeer, NetRule, PortSpot, Proto, Sctp, Tcp, Udp, blocks_of_span, ports_of, ranges_of_span, rule_if, rules_of_addresses}
 use Rattle.np_addr.specs.declared.address.Family.TheVariants as family
 use Rattle.np_addr.specs.declared.cidr.Cidr.{Cidr}
-use Rattle.np_conns.specs.Conns.{Conns, has_spot, is_spot}
-use Rattle.np_rules.specs.model.Ends.{Contact, End, PodEnd, address, pod}
-use Rattle.np_rules.specs.model.Peers.{net_peer_matches}
-use Rattle.np_rules.specs.model.PortEntries.{net_entry_matches}
-use Rattle.np_rules.specs.model.Rules.{net_rule_matches, none_or_any}
+use Rattle.np_conns.specs.Prelude.{Conns, has_spot, is_spot}
+use Rattle.np_rules.specs.Prelude.{Contact, End, PodEnd, address, net_entry_matches, net_peer_matches, net_rule_matches, none_or_any, pod}
 use Rattle.np_flatten.proofs.OnePolicy.{any-agree, any-map}
 use Rattle.np_flatten.proofs.PortLemmas.{is_none-map, none_or_any-some, ports-match}
 use Rattle.np_flatten.proofs.SplitLemmas.{nothing_is}
-use Rattle.np_flatten.specs.Flat.{blocks_of_span, ranges_of_span, rule_if, rules_of_addresses}
-use Rattle.np_flatten.specs.Ports.{ports_of}
 use Rattle.np_table.proofs.RangeWalks.{walk-right}
 use Rattle.np_table.proofs.SetLemmas.{has_spot-conns_of}
-use Rattle.np_table.specs.Right.{AreRight, Stretch, is_within, walk}
-use Rattle.np_table.specs.Rows.{address_row, four_of, is_none, is_nothing, rows_of_addresses, six_of}
-use Rattle.np_table.specs.Said.{IsInFamily, span_has}
-use Rattle.np_kinds.specs.Between.{address_of}
+use Rattle.np_table.specs.Prelude.{AreRight, IsInFamily, Stretch, address_row, four_of, is_none, is_nothing, is_within, rows_of_addresses, six_of, span_has, walk}
+use Rattle.np_kinds.specs.Prelude.{address_of}
 use Rattle.np_table.specs.declared.rows.AddressSpan.TheVariants as span
 
 -- ---- the right list

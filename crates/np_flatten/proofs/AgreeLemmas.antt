@@ -3,9 +3,7 @@
 use Rattle.std.proofs.Common.{◌≡◌, ◌≢◌, ◌⊎◌, ℕ, ◌<◌, ◌≤◌, List, All, Option, Some, None, Bool, true, false, ◌&&◌, ◌==◌, nat_lt, arith, refl, sym, ap, subst, ◌∙◌, inl, inr, eq-eqb}
 use Rattle.std.proofs.lemmas.Bool.{and_parts, and_from, cases_eq, false_from_ne_true, lt-ltb, ltb-true, or_right, true≢false}
 use Rattle.np_flatten.proofs.FirstPairs.{first_pair-none, first_pair-some}
-use Rattle.np_flatten.specs.Pairs.{first_pair}
-use Rattle.np_flatten.specs.steps.Agree.{Agree}
-use Rattle.np_flatten.specs.steps.Least.{IsLeast, IsLike, IsNotBefore, stands_before}
+use Rattle.np_flatten.specs.Prelude.{Agree, IsLeast, IsLike, IsNotBefore, first_pair, stands_before}
 
 module _ {C R : Type 0} (count : ℕ) (defined : ℕ → ℕ → Bool) (set : ℕ → ℕ → C) (own : ℕ → R) where
   abbrev agree : ℕ → ℕ → Type 0

@@ -4,7 +4,7 @@ use Rattle.std.specs.List.{find, range_with_len}
 use Rattle.std.specs.Option.{option_or}
 use Rattle.std.proofs.lemmas.Bool.{cases_eq}
 use Rattle.std.proofs.lemmas.List.Folds.{find-append}
-use Rattle.np_flatten.specs.Pairs.{first_pair}
+use Rattle.np_flatten.specs.Prelude.{first_pair}
 
 module _ (test : ℕ → ℕ → Bool) where
   abbrev passes : ℕ × ℕ → Bool

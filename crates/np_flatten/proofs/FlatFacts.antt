@@ -3,12 +3,12 @@ use Rattle.std.proofs.Common.{◌≡◌, ◌≢◌, ◌⊎◌, ℕ, ◌<◌, Lis
 use Rattle.std.specs.List.{AllByRecursion, find, list_any}
 use Rattle.std.proofs.lemmas.Bool.{and_from, cases_Bool, cases_eq, cases_order, eqb-true, eq-eqb, lt-ltb, true≢false}
 use Rattle.std.proofs.lemmas.List.Elements.{All-contains, All-from_recursion, recursion_from_All}
-use Rattle.np_flatten.specs.Types.{EstateLists, Family, Four, Six}
+use Rattle.np_flatten.specs.Prelude.{EstateLists, Family, Four, Six, are_together, differ, fault_by, first_family, first_of_group, first_pair, flat_fault, group_of, is_defined, is_split, is_unlike, receiver_in, set_from, set_in, set_of, two_differ}
 use Rattle.np_classes.proofs.Lists.{All-places, any_place}
 use Rattle.np_classes.proofs.Relations.{alike_in_class}
 use Rattle.np_classes.specs.Classes.{places}
-use Rattle.np_conns.specs.Conns.{Conns}
-use Rattle.np_model.specs.Families.{families_of}
+use Rattle.np_conns.specs.Prelude.{Conns}
+use Rattle.np_model.specs.Prelude.{families_of}
 use Rattle.np_flatten.proofs.AgreeLemmas.{Agree-sym}
 use Rattle.np_flatten.proofs.ClassFirsts.{first-class, first-in}
 use Rattle.np_flatten.proofs.DifferLemmas.{Agrees, apart-defined, own_rows, to_agree}
@@ -16,13 +16,9 @@ use Rattle.np_flatten.proofs.FirstPairs.{first_pair-from_none}
 use Rattle.np_flatten.proofs.GroupLemmas.{together-is}
 use Rattle.np_flatten.proofs.GroupSets.{one-set}
 use Rattle.np_flatten.proofs.SplitLemmas.{families_cases, two_differ-two}
-use Rattle.np_flatten.specs.Faults.{differ, fault_by, first_family, flat_fault, is_defined, is_split, is_unlike, set_in, set_of, two_differ}
-use Rattle.np_flatten.specs.Flat.{receiver_in, set_from}
-use Rattle.np_flatten.specs.Groups.{are_together, first_of_group, group_of}
-use Rattle.np_flatten.specs.Pairs.{first_pair}
 use Rattle.np_table.proofs.RangeSets.{are_same_conns-Decides}
-use Rattle.np_table.specs.Right.{are_same_conns}
-use Rattle.np_kinds.specs.Between.{number_of_workloads}
+use Rattle.np_table.specs.Prelude.{are_same_conns}
+use Rattle.np_kinds.specs.Prelude.{number_of_workloads}
 
 -- ---- no fault
 

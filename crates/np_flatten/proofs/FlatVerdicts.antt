@@ -7,23 +7,15 @@ use Rattle.std.proofs.lemmas.Bool.{false_from_ne_true}
 use Rattle.std.proofs.lemmas.List.Elements.{All-get_or}
 use Rattle.std.proofs.lemmas.List.Folds.{list_any-append}
 use Rattle.std.proofs.lemmas.Option.{get_or_from_slice_get, slice_get-get_or}
-use Rattle.np_flatten.specs.Types.{AddressRow, Direction, Egress, EstateLists, Family, Ingress, NetPeer, NetRule, Pod, PortSpot}
+use Rattle.np_flatten.specs.Prelude.{AddressRow, Direction, Egress, EstateLists, Family, Ingress, NetPeer, NetRule, Pod, PortSpot, are_together, egress_rules, first_of_group, flat_fault, flat_policy, flattened, group_count, group_namespace, group_of, group_peer, group_rows, ingress_rules, is_defined, look_alike, ports_of, relevant, rule_if, rules_from_group, rules_from_groups, rules_of_addresses, rules_of_set, seen, set_from, set_in}
 use Rattle.np_classes.proofs.Relations.{class_of_first, class_within, firsts_within, same_class}
 use Rattle.np_classes.specs.Classes.{firsts, places}
-use Rattle.np_conns.specs.Conns.{Conns, has_spot, is_spot}
-use Rattle.np_model.specs.Families.{families_of}
-use Rattle.np_model.specs.Lawful.{IsLawful, SaysItsNamespace}
+use Rattle.np_conns.specs.Prelude.{Conns, has_spot, is_spot}
+use Rattle.np_model.specs.Prelude.{IsLawful, SaysItsNamespace, families_of}
 use Rattle.np_fold.proofs.WorkloadLemmas.{number-in_workloads, one_workload}
-use Rattle.np_fold.specs.Workloads.{folding_of, number_of}
-use Rattle.np_labels.specs.Labels.{value_of}
-use Rattle.np_rules.specs.model.Ends.{Contact, End, PodEnd, address, pod, pod_end}
-use Rattle.np_rules.specs.model.Peers.{net_peer_matches}
-use Rattle.np_rules.specs.model.Places.{net_rules_of}
-use Rattle.np_rules.specs.model.PortEntries.{net_entry_matches}
-use Rattle.np_rules.specs.model.Rules.{net_rule_matches, none_or_any}
-use Rattle.np_rules.specs.model.Selection.{net_selects}
-use Rattle.np_rules.specs.model.Sides.{side_allows}
-use Rattle.np_rules.specs.model.Verdict.{allows, no_pod, pod_at}
+use Rattle.np_fold.specs.Prelude.{folding_of, number_of}
+use Rattle.np_labels.specs.Prelude.{value_of}
+use Rattle.np_rules.specs.Prelude.{Contact, End, PodEnd, address, allows, net_entry_matches, net_peer_matches, net_rule_matches, net_rules_of, net_selects, no_pod, none_or_any, pod, pod_at, pod_end, side_allows}
 use Rattle.np_flatten.proofs.AddressVerdicts.{IsWellSpan, addresses-no_pod, addresses-permit, any-never, at_address, nothing-has, row_tells, rows-any, rows-well}
 use Rattle.np_flatten.proofs.ClassFirsts.{first-alike}
 use Rattle.np_flatten.proofs.DifferLemmas.{own_rows}
@@ -33,19 +25,11 @@ use Rattle.np_flatten.proofs.KindGroups.{kind-looks}
 use Rattle.np_flatten.proofs.OnePolicy.{any-agree, any-flat_map, only-one, side-by_one}
 use Rattle.np_flatten.proofs.PortLemmas.{ports-match}
 use Rattle.np_flatten.proofs.SelectLemmas.{meets-namespace_named, meets-selector_of}
-use Rattle.np_flatten.specs.Faults.{flat_fault, is_defined, set_in}
-use Rattle.np_flatten.specs.Flat.{egress_rules, flat_policy, flattened, group_namespace, group_peer, group_rows, ingress_rules, rule_if, rules_from_group, rules_from_groups, rules_of_addresses, rules_of_set, set_from}
-use Rattle.np_flatten.specs.Groups.{are_together, first_of_group, group_count, group_of, look_alike, relevant}
-use Rattle.np_kinds.specs.Kinds.{first_end}
-use Rattle.np_flatten.specs.Ports.{ports_of}
-use Rattle.np_flatten.specs.steps.Seen.{seen}
+use Rattle.np_kinds.specs.Prelude.{address_allows, address_of, between_pods, first_end, number_of_workloads, pair_allows, source_pod, with_address}
 use Rattle.np_kinds.proofs.MemberLemmas.{member-number, members-some, members-within, not-alone, own-member, source-member}
 use Rattle.np_kinds.proofs.PairLemmas.{between_pods-pair_allows, pod_there, with_address-address_allows}
 use Rattle.np_table.proofs.SetLemmas.{has_spot-conns_of}
-use Rattle.np_table.specs.Rows.{address_rows, is_nothing}
-use Rattle.np_table.specs.Said.{IsInFamily}
-use Rattle.np_kinds.specs.Between.{address_allows, address_of, between_pods, number_of_workloads, pair_allows, source_pod, with_address}
-use Rattle.np_table.specs.Table.{estate_table, table_of}
+use Rattle.np_table.specs.Prelude.{IsInFamily, address_rows, estate_table, is_nothing, table_of}
 
 -- ---- pods and groups
 

@@ -14,17 +14,13 @@ use Rattle.std.proofs.lemmas.Option.{same_Some, slice_get-get_or, slice_get-map}
 use Rattle.np_classes.proofs.Lists.{All-places, map_agree_on, places_more}
 use Rattle.np_classes.proofs.Relations.{class_of_agree, firsts_agree}
 use Rattle.np_classes.specs.Classes.{IsAlike, class_of, firsts, keys_tie, places}
-use Rattle.np_flatten.specs.Types.{EstateLists, Traits}
+use Rattle.np_flatten.specs.Prelude.{EstateLists, Traits, are_together, group_firsts, group_of, have_same_value, look_alike, relevant, seen, seen_at}
 use Rattle.np_fold.proofs.LabelLemmas.{Decides-listed, labels-from_values, values-from_labels}
 use Rattle.np_fold.proofs.OrderLemmas.{ties-equal}
-use Rattle.np_fold.specs.Order.{compare_traits}
-use Rattle.np_fold.specs.Traits.{label_of}
-use Rattle.np_labels.specs.Labels.{value_of}
-use Rattle.np_rules.specs.model.Ends.{PodEnd}
-use Rattle.np_flatten.specs.Groups.{are_together, group_firsts, group_of, have_same_value, look_alike, relevant}
-use Rattle.np_kinds.specs.Kinds.{first_end}
-use Rattle.np_flatten.specs.steps.Seen.{seen, seen_at}
-use Rattle.np_kinds.specs.Between.{number_of_workloads}
+use Rattle.np_fold.specs.Prelude.{compare_traits, label_of}
+use Rattle.np_labels.specs.Prelude.{value_of}
+use Rattle.np_rules.specs.Prelude.{PodEnd}
+use Rattle.np_kinds.specs.Prelude.{first_end, number_of_workloads}
 
 -- ---- what a selector sees
 

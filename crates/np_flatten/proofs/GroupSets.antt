@@ -1,7 +1,7 @@
 -- Where all numbers of a group agree, a set between two numbers depends on their groups alone. For FlatFacts.
 use Rattle.std.proofs.Common.{◌≡◌, ◌≢◌, ℕ, ◌<◌, Bool, true, false, sym, ap, subst, ◌∙◌, inl, inr}
 use Rattle.std.proofs.lemmas.Bool.{cases_Bool, cases_eq, true≢false}
-use Rattle.np_flatten.specs.steps.Agree.{Agree}
+use Rattle.np_flatten.specs.Prelude.{Agree}
 
 module _ {C R : Type 0} (count : ℕ) (defined : ℕ → ℕ → Bool) (set : ℕ → ℕ → C) (own : ℕ → R) (group : ℕ → ℕ)
     (apart_defined : (x y : ℕ) → x ≢ y → defined x y ≡ true)

@@ -5,36 +5,25 @@ use Rattle.std.specs.List.{list_all}
 use Rattle.std.specs.Str.{bytes_eq}
 use Rattle.std.specs.Cmp.Lexicographic.{bytes_decides}
 use Rattle.std.proofs.lemmas.Bool.{and_from}
-use Rattle.np_flatten.specs.Types.{AddressRow, Direction, Egress, EstateLists, Family, Four, Ingress, Pod, PortSpot, Six}
+use Rattle.np_flatten.specs.Prelude.{AddressRow, Direction, Egress, EstateLists, Family, Four, Ingress, IsLeastUnlike, Pod, PortSpot, Six, are_together, differ, family_of_list, first_pair, first_with, have_same_value, is_defined, is_unlike, look_alike, relevant, set_in, set_of}
 use Rattle.np_classes.specs.Classes.{IsAlike, class_of}
-use Rattle.np_model.specs.Lawful.{IsLawful}
+use Rattle.np_model.specs.Prelude.{IsLawful}
 use Rattle.np_fold.proofs.AlikeLemmas.{kinds-are}
 use Rattle.np_fold.proofs.PartLemmas.{keys-agree}
 use Rattle.np_fold.proofs.WorkloadLemmas.{first-is, one_kind, workloads-count}
-use Rattle.np_fold.specs.Alike.{IsSameKind}
-use Rattle.np_fold.specs.Keys.{keys_of_estate, with_keys}
-use Rattle.np_fold.specs.Workloads.{first_pod, folding_of, kinds_alike, members_of, workload_count}
-use Rattle.np_labels.specs.Labels.{value_of}
-use Rattle.np_labels.specs.Selectors.{is_listed}
-use Rattle.np_rules.specs.model.Ends.{pod, pod_end}
-use Rattle.np_rules.specs.model.Verdict.{no_pod, pod_at}
+use Rattle.np_fold.specs.Prelude.{IsSameKind, first_pod, folding_of, keys_of_estate, kinds_alike, members_of, with_keys, workload_count}
+use Rattle.np_labels.specs.Prelude.{is_listed, value_of}
+use Rattle.np_rules.specs.Prelude.{no_pod, pod, pod_at, pod_end}
 use Rattle.np_flatten.proofs.AgreeLemmas.{least-first_pair}
 use Rattle.np_flatten.proofs.ClassFirsts.{class_first, first-in, first-listed, first-low, first-same, first-twice, first-class, same-first}
 use Rattle.np_flatten.proofs.DifferLemmas.{apart-defined, from_agree, own_rows, to_agree}
 use Rattle.np_flatten.proofs.GroupLemmas.{together-is, values_decide}
-use Rattle.np_flatten.specs.Faults.{differ, family_of_list, is_defined, is_unlike, set_in, set_of}
-use Rattle.np_flatten.specs.Groups.{are_together, have_same_value, look_alike, relevant}
-use Rattle.np_kinds.specs.Kinds.{first_end}
-use Rattle.np_flatten.specs.Pairs.{first_pair}
-use Rattle.np_flatten.specs.steps.Unlike.{IsLeastUnlike, first_with}
+use Rattle.np_kinds.specs.Prelude.{address_allows, first_end, is_alone, number_of_workloads, source_pod}
 use Rattle.np_kinds.proofs.KindNumbers.{first_pod-there}
 use Rattle.np_kinds.proofs.PairLemmas.{first_there, in_workloads, one_kind-sources, pair_allows-kinds, with_address-same}
 use Rattle.np_table.proofs.RangeOneList.{walk-agrees}
 use Rattle.np_table.proofs.RangeSets.{conns_of-agrees}
-use Rattle.np_table.specs.Right.{Stretch, walk}
-use Rattle.np_table.specs.Rows.{address_row, address_rows, four_of, six_of}
-use Rattle.np_kinds.specs.Between.{address_allows, is_alone, number_of_workloads, source_pod}
-use Rattle.np_table.specs.Table.{estate_table, table_of}
+use Rattle.np_table.specs.Prelude.{Stretch, address_row, address_rows, estate_table, four_of, six_of, table_of, walk}
 
 -- ---- counts
 

@@ -2,7 +2,7 @@
 use Rattle.std.proofs.Common.{◌≡◌, ◌≢◌, ◌⊎◌, ℕ, ◌<◌, List, [], ◌∷◌, ◌++◌, Bool, true, false, not, ◌&&◌, ◌==◌, nat_lt, if◌then◌else◌, All, Option, Some, None, refl, sym, ap, ◌∙◌, inl, inr, arith, eq-eqb}
 use Rattle.std.proofs.lemmas.Bool.{and_cases, and_from, and_parts, eqb-true, false_from_ne_true, lt-ltb, ltb-true, or_cases, or_left, or_right, true≢false}
 use Rattle.std.proofs.lemmas.List.Elements.{All-append, All-cons, All-nil, All-weaker}
-use Rattle.np_flatten.specs.steps.Least.{IsLeast, IsLike, IsNotBefore, comes_before, stands_before, with_number}
+use Rattle.np_flatten.specs.Prelude.{IsLeast, IsLike, IsNotBefore, comes_before, stands_before, with_number}
 
 -- ---- the order of pairs
 

@@ -7,13 +7,8 @@ use Rattle.std.proofs.lemmas.Bool.{and_from, cases_Bool, cases_eq, false_from_ne
 use Rattle.std.proofs.lemmas.List.Folds.{list_any-append}
 use Rattle.np_classes.proofs.Lists.{any_place, place_that_passes}
 use Rattle.np_classes.specs.Classes.{places}
-use Rattle.np_flatten.specs.Types.{Direction, EstateLists, NetPolicy, NetRule}
-use Rattle.np_rules.specs.model.Ends.{Contact, PodEnd}
-use Rattle.np_rules.specs.model.NetTier.{is_isolated, isolates, permits, placed_net_matches}
-use Rattle.np_rules.specs.model.Places.{net_places_of, net_rules_of}
-use Rattle.np_rules.specs.model.Rules.{net_rule_matches}
-use Rattle.np_rules.specs.model.Selection.{net_selects}
-use Rattle.np_rules.specs.model.Sides.{side_allows}
+use Rattle.np_flatten.specs.Prelude.{Direction, EstateLists, NetPolicy, NetRule}
+use Rattle.np_rules.specs.Prelude.{Contact, PodEnd, is_isolated, isolates, net_places_of, net_rule_matches, net_rules_of, net_selects, permits, placed_net_matches, side_allows}
 
 -- ---- tests of some item
 

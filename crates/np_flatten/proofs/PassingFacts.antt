@@ -1,17 +1,14 @@
 -- The sides of the kinds of workloads, and what passes between two. For `Passing::between` and `Passing::of`.
 use Rattle.std.proofs.Common.{◌≡◌, ◌≢◌, ◌==◌, ◌+◌, ℕ, false, true, length, inl, inr, arith, sym, ap, ◌∙◌}
 use Rattle.std.proofs.lemmas.Bool.{and_left, cases_eq, ne_eqb}
-use Rattle.np_flatten.specs.Types.{Direction, Egress, EstateLists, Family, Ingress, PortSpot}
-use Rattle.np_conns.specs.Conns.{Conns, IsConns, has_spot}
-use Rattle.np_fold.specs.Workloads.{folding_of, members_of}
-use Rattle.np_rules.specs.PodSides.{PodSide}
-use Rattle.np_flatten.specs.Faults.{family_of_list, set_in, set_of}
-use Rattle.np_flatten.specs.steps.Known.{AreKnownBelow}
+use Rattle.np_flatten.specs.Prelude.{AreKnownBelow, Direction, Egress, EstateLists, Family, Ingress, PortSpot, family_of_list, set_in, set_of}
+use Rattle.np_conns.specs.Prelude.{Conns, IsConns, has_spot}
+use Rattle.np_fold.specs.Prelude.{folding_of, members_of}
+use Rattle.np_rules.specs.Prelude.{PodSide}
 use Rattle.np_table.proofs.SetLemmas.{conns_of-set}
 use Rattle.np_table.proofs.SideLemmas.{StandFor}
-use Rattle.np_table.specs.Right.{conns_of}
-use Rattle.np_kinds.specs.Between.{between_pods, pair_allows}
-use Rattle.np_kinds.specs.Kinds.{KnownSides, KnowsMore, knows}
+use Rattle.np_table.specs.Prelude.{conns_of}
+use Rattle.np_kinds.specs.Prelude.{KnownSides, KnowsMore, between_pods, knows, pair_allows}
 
 -- ---- what is known
 

@@ -1,14 +1,10 @@
 -- The parts of a flat policy, as they are made. For `Flat::add_rule_from` and `Flat::policy`.
 use Rattle.std.proofs.Common.{◌≡◌, ℕ, List, [], ◌∷◌, Bool, false, Option, Some, Result, Ok, Err, OnOk, if◌then◌else◌, sym, ap, ◌∙◌}
-use Rattle.np_conns.specs.Conns.{Conns}
-use Rattle.np_flatten.specs.Types.{EstateLists, NetPeer, NetPolicy, NetPort, NetRule, Pods, Selector}
-use Rattle.np_rules.specs.model.Ends.{PodEnd}
-use Rattle.np_flatten.specs.Flat.{egress_rules, flat_name, flat_policy, group_peer, ingress_rules, rules_from_group, rules_of_set, set_from}
-use Rattle.np_flatten.specs.Groups.{first_of_group, relevant}
-use Rattle.np_kinds.specs.Kinds.{first_end}
-use Rattle.np_flatten.specs.Ports.{ports_of}
-use Rattle.np_flatten.specs.Selecting.{namespace_named, selector_of}
-use Rattle.np_table.specs.Rows.{is_nothing}
+use Rattle.np_conns.specs.Prelude.{Conns}
+use Rattle.np_flatten.specs.Prelude.{EstateLists, NetPeer, NetPolicy, NetPort, NetRule, Pods, Selector, egress_rules, first_of_group, flat_name, flat_policy, group_peer, ingress_rules, namespace_named, ports_of, relevant, rules_from_group, rules_of_set, selector_of, set_from}
+use Rattle.np_rules.specs.Prelude.{PodEnd}
+use Rattle.np_kinds.specs.Prelude.{first_end}
+use Rattle.np_table.specs.Prelude.{is_nothing}
 
 -- what follows where there is no error
 pub on_ok : {X E : Type 0} (made : Result X E) (P Q : Type 0) → (P → Q) → OnOk made P → OnOk made Q

@@ -4,14 +4,10 @@ use Rattle.std.specs.List.{list_any}
 use Rattle.std.proofs.lemmas.Bool.{and_parts, eqb-true, or_left, true≢false}
 use Rattle.std.proofs.lemmas.List.Folds.{list_any-append}
 use Rattle.np_base.specs.Ranges.{holds}
-use Rattle.np_flatten.specs.Types.{NetPort, PortSpot, Proto, Range, Sctp, Tcp, Udp}
-use Rattle.np_conns.specs.Conns.{Conns, has_spot, is_spot, same_proto}
-use Rattle.np_conns.specs.ConnsText.{is_whole}
-use Rattle.np_rules.specs.model.Ends.{End}
-use Rattle.np_rules.specs.model.PortEntries.{net_entry_matches}
-use Rattle.np_rules.specs.model.Rules.{none_or_any}
-use Rattle.np_flatten.specs.Ports.{ports_of, span_of, spans_of_all}
-use Rattle.np_table.specs.Rows.{is_none, is_nothing}
+use Rattle.np_flatten.specs.Prelude.{NetPort, PortSpot, Proto, Range, Sctp, Tcp, Udp, ports_of, span_of, spans_of_all}
+use Rattle.np_conns.specs.Prelude.{Conns, has_spot, is_spot, is_whole, same_proto}
+use Rattle.np_rules.specs.Prelude.{End, net_entry_matches, none_or_any}
+use Rattle.np_table.specs.Prelude.{is_none, is_nothing}
 
 -- ---- lists
 

@@ -1,6 +1,5 @@
 -- The workload of a group that stands for it as one that receives. For `Flat::add_rules_of_addresses`, `Flat::count` and 6 more.
-use Rattle.std.proofs.Common.{◌≡◌, ◌≢◌, ℕ, ◌+◌, ◌-◌, ◌<◌, ◌≤◌, List, [], ◌∷◌, ◌++◌, All, Bool, true, false, not, ◌&&◌, ◌==◌, Option, Some, None, flat_map, slice_index, refl, sym, ap, subst, ◌∙◌, inl}
-use Rattle.std.proofs.Common.{inr, arith, eq-eqb, if◌then◌else◌}
+use Rattle.std.proofs.Common.{◌≡◌, ◌≢◌, ℕ, ◌+◌, ◌-◌, ◌<◌, ◌≤◌, List, [], ◌∷◌, ◌++◌, All, Bool, true, false, not, ◌&&◌, ◌==◌, Option, Some, None, flat_map, slice_index, refl, sym, ap, subst, ◌∙◌, inl, inr, arith, eq-eqb, if◌then◌else◌}
 use Rattle.std.specs.Prelude.{is_some, option_map}
 use Rattle.std.proofs.lemmas.Bool.{and_from, and_left, and_right, cases_eq, cases_lt, ne_eqb, or_left, true≢false}
 use Rattle.std.proofs.lemmas.List.{flat_map_more}
@@ -8,25 +7,19 @@ use Rattle.std.proofs.lemmas.List.Elements.{All-from_recursion, All-get_or, All-
 use Rattle.std.proofs.lemmas.Option.{slice_get-get_or}
 use Rattle.np_base.proofs.Ranges.{is_within-inside}
 use Rattle.np_base.specs.Ranges.{IsAscending, holds}
-use Rattle.np_flatten.specs.Types.{AddressRow, AddressSpan, Direction, EstateLists, NetRule, Range}
+use Rattle.np_flatten.specs.Prelude.{AddressRow, AddressSpan, Direction, EstateLists, IsFilled, NetRule, Range, are_together, first_of_group, group_count, group_firsts, group_of, is_defined, next_in, receiver_in, rules_from_group, set_from, set_of}
 use Rattle.np_classes.proofs.Lists.{places_more}
 use Rattle.np_classes.proofs.Relations.{class_of_first, firsts-le-count, firsts_within}
 use Rattle.np_classes.specs.Classes.{places}
-use Rattle.np_conns.specs.Conns.{Conns}
-use Rattle.np_fold.specs.Workloads.{folding_of}
+use Rattle.np_conns.specs.Prelude.{Conns}
+use Rattle.np_fold.specs.Prelude.{folding_of}
 use Rattle.np_flatten.proofs.AddressVerdicts.{IsWellSpan, rows-well}
 use Rattle.np_flatten.proofs.ClassFirsts.{first-least}
 use Rattle.np_flatten.proofs.DifferLemmas.{apart-defined}
 use Rattle.np_flatten.proofs.FindFacts.{found-is, found-none, range-none, range-some}
 use Rattle.np_flatten.proofs.GroupLemmas.{together-is}
-use Rattle.np_flatten.specs.Faults.{is_defined, set_of}
-use Rattle.np_flatten.specs.Flat.{receiver_in, rules_from_group, set_from}
-use Rattle.np_flatten.specs.Groups.{are_together, first_of_group, group_count, group_firsts, group_of}
-use Rattle.np_flatten.specs.steps.Filled.{IsFilled}
-use Rattle.np_flatten.specs.steps.Next.{next_in}
-use Rattle.np_table.specs.Rows.{address_rows}
-use Rattle.np_table.specs.Table.{estate_table}
-use Rattle.np_kinds.specs.Between.{is_alone, number_of_workloads}
+use Rattle.np_table.specs.Prelude.{address_rows, estate_table}
+use Rattle.np_kinds.specs.Prelude.{is_alone, number_of_workloads}
 use Rattle.np_table.specs.declared.rows.AddressSpan.TheVariants as span
 
 -- ---- the first workload of a group

@@ -4,23 +4,18 @@ use Rattle.std.proofs.Common.{◌≡◌, ◌⊎◌, ℕ, ◌<◌, List, [], ◌�
 use Rattle.std.specs.List.{Contains}
 use Rattle.std.proofs.lemmas.Bool.{and_parts, lt-ltb, ltb-true, true≢false}
 use Rattle.std.proofs.lemmas.List.Elements.{All-contains, All-from_recursion}
-use Rattle.np_flatten.specs.Types.{AddressRow, Alike, Direction, Egress, EstateLists, Family, Four, Ingress, PortSpot, Six, Split}
-use Rattle.np_conns.specs.Conns.{Conns, has_spot, is_spot}
-use Rattle.np_model.specs.Families.{families_of}
-use Rattle.np_fold.specs.Workloads.{folding_of}
+use Rattle.np_flatten.specs.Prelude.{AddressRow, Alike, AreFamiliesAlike, AreTreatedAlike, ComesBefore, Direction, Egress, EstateLists, Family, Four, Ingress, PassTheSame, PortSpot, Six, Split, are_together, differ, family_of_list, fault_by, first_family, first_pair, flat_fault, is_defined, is_split, is_unlike, set_in, set_of, two_differ}
+use Rattle.np_conns.specs.Prelude.{Conns, has_spot, is_spot}
+use Rattle.np_model.specs.Prelude.{families_of}
+use Rattle.np_fold.specs.Prelude.{folding_of}
 use Rattle.np_flatten.proofs.DifferLemmas.{Agrees, from_agree, to_agree}
 use Rattle.np_flatten.proofs.FirstPairs.{first_pair-from_none, first_pair-is_first}
 use Rattle.np_flatten.proofs.FlatFacts.{same_sets}
 use Rattle.np_flatten.proofs.SplitLemmas.{families_cases, two_differ-two}
-use Rattle.np_flatten.specs.Faults.{differ, family_of_list, fault_by, first_family, flat_fault, is_defined, is_split, is_unlike, set_in, set_of, two_differ}
-use Rattle.np_flatten.specs.Groups.{are_together}
-use Rattle.np_flatten.specs.Pairs.{first_pair}
-use Rattle.np_flatten.specs.Refused.{AreFamiliesAlike, AreTreatedAlike, ComesBefore, PassTheSame}
 use Rattle.np_table.proofs.RangeSets.{are_same_conns-Decides, conns_of-agrees}
 use Rattle.np_table.proofs.SetLemmas.{has_spot-conns_of}
-use Rattle.np_table.specs.Rows.{address_rows}
-use Rattle.np_table.specs.Table.{estate_table}
-use Rattle.np_kinds.specs.Between.{is_alone, number_of_workloads, pair_allows}
+use Rattle.np_table.specs.Prelude.{address_rows, estate_table}
+use Rattle.np_kinds.specs.Prelude.{is_alone, number_of_workloads, pair_allows}
 
 -- ---- sets and packets
 

@@ -3,10 +3,8 @@ use Rattle.std.proofs.Common.{◌≡◌, ℕ, List, [], ◌∷◌, Bool, true, f
 use Rattle.std.specs.List.{list_all}
 use Rattle.std.specs.Option.{option_eq}
 use Rattle.std.specs.Str.{bytes_eq}
-use Rattle.np_labels.specs.Labels.{value_of}
-use Rattle.np_labels.specs.Selectors.{meets_requirement, meets_selector}
-use Rattle.np_flatten.specs.Types.{Pair}
-use Rattle.np_flatten.specs.Selecting.{namespace_named, requirement_at, requirement_of_key, selector_of}
+use Rattle.np_labels.specs.Prelude.{meets_requirement, meets_selector, value_of}
+use Rattle.np_flatten.specs.Prelude.{Pair, namespace_named, requirement_at, requirement_of_key, selector_of}
 
 or_false : (b : Bool) → (b || false) ≡ b
 or_false true = refl

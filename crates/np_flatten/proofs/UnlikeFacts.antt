@@ -6,14 +6,12 @@ use Rattle.std.proofs.lemmas.List.FromFn.{length-range_with_len}
 use Rattle.std.proofs.lemmas.Option.{get_or_from_slice_get}
 use Rattle.np_classes.proofs.Relations.{class_within}
 use Rattle.np_classes.specs.Classes.{places}
-use Rattle.np_flatten.specs.Types.{EstateLists}
-use Rattle.np_fold.specs.Workloads.{folding_of}
+use Rattle.np_flatten.specs.Prelude.{EstateLists, are_together, first_by, first_with, group_firsts, group_of}
+use Rattle.np_fold.specs.Prelude.{folding_of}
 use Rattle.np_flatten.proofs.ClassFirsts.{first-in}
 use Rattle.np_flatten.proofs.GroupLemmas.{get-map, together-is}
-use Rattle.np_flatten.specs.Groups.{are_together, group_firsts, group_of}
-use Rattle.np_flatten.specs.steps.Unlike.{first_by, first_with}
 use Rattle.np_kinds.proofs.KindNumbers.{firsts-workloads}
-use Rattle.np_kinds.specs.Between.{IsWorkload, number_of_workloads}
+use Rattle.np_kinds.specs.Prelude.{IsWorkload, number_of_workloads}
 
 -- the first workload of a kind is a workload
 pub item-in : (lists : EstateLists) (items : List ℕ) (i : ℕ) → items ≡ (folding_of lists).first_of_kinds → i < length items → slice_index items i < number_of_workloads lists

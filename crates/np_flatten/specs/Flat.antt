@@ -1,18 +1,15 @@
 -- The flat policies: one NetworkPolicy for each group.
 use Rattle.std.specs.Prelude.{ℕ, List, [], ◌∷◌, ◌++◌, ◌&&◌, ◌==◌, map, find, flat_map, codes, decimal, Option, Some, None, option_map, if◌then◌else◌}
-use Rattle.np_addr.specs.Blocks.{AddressRanges}
-use Rattle.np_addr.specs.Prefixes.{prefixes_of}
+use Rattle.np_addr.specs.Prelude.{AddressRanges, prefixes_of}
 use Rattle.np_classes.specs.Classes.{places}
-use Rattle.np_conns.specs.Conns.{Conns}
+use Rattle.np_conns.specs.Prelude.{Conns}
 use Rattle.np_flatten.specs.Types.{AddressRow, AddressSpan, Block, Direction, Egress, EstateLists, Ingress, NetPeer, NetPolicy, NetRule, Pods, Selector}
 use Rattle.np_flatten.specs.Faults.{is_defined, set_of}
 use Rattle.np_flatten.specs.Groups.{first_of_group, group_count, group_of, relevant}
-use Rattle.np_kinds.specs.Kinds.{first_end}
+use Rattle.np_kinds.specs.Prelude.{first_end, number_of_workloads}
 use Rattle.np_flatten.specs.Ports.{ports_of}
 use Rattle.np_flatten.specs.Selecting.{namespace_named, selector_of}
-use Rattle.np_table.specs.Rows.{address_rows, is_nothing}
-use Rattle.np_table.specs.Table.{estate_table}
-use Rattle.np_kinds.specs.Between.{number_of_workloads}
+use Rattle.np_table.specs.Prelude.{address_rows, estate_table, is_nothing}
 use Rattle.np_table.specs.declared.rows.AddressSpan.TheVariants as span
 
 -- ---- groups as selectors see them

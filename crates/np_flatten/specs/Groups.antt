@@ -5,11 +5,10 @@ use Rattle.std.specs.Option.{option_eq}
 use Rattle.std.specs.Str.{bytes_eq}
 use Rattle.np_classes.specs.Classes.{class_of, firsts}
 use Rattle.np_flatten.specs.Types.{EstateLists}
-use Rattle.np_fold.specs.Workloads.{folding_of}
-use Rattle.np_labels.specs.Labels.{value_of}
-use Rattle.np_rules.specs.model.Ends.{PodEnd}
-use Rattle.np_kinds.specs.Kinds.{first_end}
-use Rattle.np_kinds.specs.Between.{number_of_workloads}
+use Rattle.np_fold.specs.Prelude.{folding_of}
+use Rattle.np_labels.specs.Prelude.{value_of}
+use Rattle.np_rules.specs.Prelude.{PodEnd}
+use Rattle.np_kinds.specs.Prelude.{first_end, number_of_workloads}
 
 -- the keys of labels that selectors name, in ascending order
 abbrev pub relevant : EstateLists → List (List ℕ)

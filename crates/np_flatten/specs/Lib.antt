@@ -4,7 +4,8 @@ pub mod Flat
 pub mod Groups
 pub mod Pairs
 pub mod Ports
+pub mod Prelude
 pub mod Refused
 pub mod Selecting
-pub mod Types
 pub mod steps
+pub mod Types

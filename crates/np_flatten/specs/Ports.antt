@@ -1,8 +1,7 @@
 -- The ports of a rule that lets a set pass.
 use Rattle.std.specs.Prelude.{List, [], ◌++◌, ◌&&◌, ℕ, map, if◌then◌else◌}
 use Rattle.np_flatten.specs.Types.{NetPort, Proto, Range, Sctp, Tcp, Udp}
-use Rattle.np_conns.specs.Conns.{Conns}
-use Rattle.np_conns.specs.ConnsText.{is_whole}
+use Rattle.np_conns.specs.Prelude.{Conns, is_whole}
 use Rattle.np_model.specs.declared.network_policy.NetPort.TheVariants as port
 
 abbrev pub span_of : Proto → Range ℕ → NetPort

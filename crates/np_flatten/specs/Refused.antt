@@ -2,13 +2,12 @@
 use Rattle.std.specs.Prelude.{ℕ, ◌≡◌, ◌≢◌, ◌⊎◌, ◌<◌, true}
 use Rattle.std.specs.List.{Contains}
 use Rattle.np_flatten.specs.Types.{Direction, EstateLists, Family, PortSpot}
-use Rattle.np_conns.specs.Conns.{is_spot}
-use Rattle.np_model.specs.Families.{families_of}
-use Rattle.np_fold.specs.Workloads.{folding_of}
+use Rattle.np_conns.specs.Prelude.{is_spot}
+use Rattle.np_model.specs.Prelude.{families_of}
+use Rattle.np_fold.specs.Prelude.{folding_of}
 use Rattle.np_flatten.specs.Faults.{family_of_list, is_defined}
-use Rattle.np_table.specs.Rows.{address_rows}
-use Rattle.np_table.specs.Table.{estate_table}
-use Rattle.np_kinds.specs.Between.{number_of_workloads, pair_allows}
+use Rattle.np_table.specs.Prelude.{address_rows, estate_table}
+use Rattle.np_kinds.specs.Prelude.{number_of_workloads, pair_allows}
 
 -- a pair of numbers comes before another: by the first number, and then by the second
 abbrev pub ComesBefore : ℕ → ℕ → ℕ → ℕ → Type 0

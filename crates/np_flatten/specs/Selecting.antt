@@ -1,7 +1,6 @@
 -- Selectors of labels that agree with some on given keys, and of one namespace.
 use Rattle.std.specs.Prelude.{ℕ, List, [], ◌∷◌, map, codes, Option, Some, None}
-use Rattle.np_labels.specs.Labels.{value_of}
-use Rattle.np_labels.specs.Selectors.{label_requirement, requirement_of}
+use Rattle.np_labels.specs.Prelude.{label_requirement, requirement_of, value_of}
 use Rattle.np_flatten.specs.Types.{Absent, Pair, Requirement, Selector}
 
 -- a key has the value, or is absent where there is none

@@ -1,7 +1,7 @@
 //! The rules of ranges of addresses.
 ghost use Rattle.std.specs.Prelude.{◌≡◌, ◌++◌, All, IfOk, OnOk};
 ghost use Rattle.np_flatten.specs.Flat as spec;
-ghost use Rattle.np_flatten.specs.steps.Filled.{IsFilled};
+ghost use Rattle.np_flatten.specs.Prelude.{IsFilled};
 
 use crate::policy_parts::{is_nothing, ports_of};
 use np_addr::{AddrSet, prefixes};

@@ -4,9 +4,9 @@ ghost use Rattle.std.specs.Cmp.Lexicographic.{pointwise};
 ghost use Rattle.std.specs.List.{list_any};
 ghost use Rattle.np_classes.specs.Classes.{places};
 ghost use Rattle.np_flatten.specs.Faults as spec;
-ghost use Rattle.np_flatten.specs.steps.OwnSets.{AreTwo, own_set};
-ghost use Rattle.np_table.specs.Right.{are_same_conns, are_same_range};
-ghost use Rattle.np_kinds.specs.Between.{IsWorkload, number_of_workloads};
+ghost use Rattle.np_flatten.specs.Prelude.{AreTwo, own_set};
+ghost use Rattle.np_table.specs.Prelude.{are_same_conns, are_same_range};
+ghost use Rattle.np_kinds.specs.Prelude.{IsWorkload, number_of_workloads};
 
 use crate::passing::Passing;
 use np_base::{Cells, NoMemory, Point, Range, Steps};

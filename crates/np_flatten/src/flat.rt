@@ -4,7 +4,7 @@ ghost use Rattle.np_classes.specs.Classes.{places};
 ghost use Rattle.np_flatten.specs.Flat as spec;
 ghost use Rattle.np_flatten.specs.Groups.{first_of_group, group_count, group_firsts, group_of, relevant};
 ghost use Rattle.np_flatten.specs.steps.Next.{next_in};
-ghost use Rattle.np_kinds.specs.Between.{IsWorkload, number_of_workloads};
+ghost use Rattle.np_kinds.specs.Prelude.{IsWorkload, number_of_workloads};
 
 use crate::address_rules::add_rules_of_addresses;
 use crate::passing::Passing;

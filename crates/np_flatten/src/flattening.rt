@@ -1,6 +1,6 @@
 //! Whether an estate has flat policies.
 ghost use Rattle.std.specs.Prelude.{◌≡◌, ◌≤◌, ◌⊎◌, IfErr, IfOk, None, OnOk, Some};
-ghost use Rattle.np_flatten.specs.Faults.{flat_fault};
+ghost use Rattle.np_flatten.specs.Prelude.{flat_fault};
 ghost use Rattle.np_flatten.specs.declared.fault.FlatFault.TheVariants.{NoMemory};
 
 use crate::fault::FlatFault;

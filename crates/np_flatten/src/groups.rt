@@ -4,10 +4,10 @@ ghost use Rattle.std.specs.Cmp.Lexicographic.{slice_cmp};
 ghost use Rattle.std.specs.List.Sorted.{IsStrictlySortedBy};
 ghost use Rattle.std.specs.Ordering.{nat_cmp};
 ghost use Rattle.np_classes.specs.Classes.{places};
-ghost use Rattle.np_rules.specs.model.Ends.{pod_end};
+ghost use Rattle.np_rules.specs.Prelude.{pod_end};
 ghost use Rattle.np_flatten.specs.Groups as spec;
-ghost use Rattle.np_flatten.specs.steps.Seen.{nobody, seen, seen_at};
-ghost use Rattle.np_kinds.specs.Between.{number_of_workloads};
+ghost use Rattle.np_flatten.specs.Prelude.{nobody, seen, seen_at};
+ghost use Rattle.np_kinds.specs.Prelude.{number_of_workloads};
 
 use np_base::{NoMemory, Seq, Text};
 use np_classes::Classes;

@@ -1,21 +1,16 @@
 //! What follows from the definitions. Each law is the contract of a call that does nothing.
 ghost use Rattle.std.specs.Prelude.{◌≡◌, ◌≢◌, ◌<◌, ℕ, None, Some, Contains, length, true};
 ghost use Rattle.np_addr.specs.declared.address.Family.{Family};
-ghost use Rattle.np_conns.specs.Conns.{is_spot};
+ghost use Rattle.np_conns.specs.Prelude.{is_spot};
 ghost use Rattle.np_conns.specs.declared.port_spot.PortSpot.{PortSpot};
-ghost use Rattle.np_model.specs.Families.{families_of};
-ghost use Rattle.np_model.specs.Lawful.{IsLawful};
+ghost use Rattle.np_model.specs.Prelude.{IsLawful, families_of};
 ghost use Rattle.np_model.specs.declared.lists.EstateLists.{EstateLists};
 ghost use Rattle.np_model.specs.declared.direction.Direction.{Direction};
-ghost use Rattle.np_rules.specs.model.Ends.{pod};
-ghost use Rattle.np_rules.specs.model.Verdict.{pod_at};
-ghost use Rattle.np_flatten.specs.Faults.{flat_fault, is_defined, set_of};
-ghost use Rattle.np_flatten.specs.Flat.{flattened, set_from};
-ghost use Rattle.np_flatten.specs.Groups.{are_together, group_of};
-ghost use Rattle.np_flatten.specs.Refused.{AreFamiliesAlike, AreTreatedAlike, ComesBefore};
+ghost use Rattle.np_rules.specs.Prelude.{pod, pod_at};
+ghost use Rattle.np_flatten.specs.Prelude.{AreFamiliesAlike, AreTreatedAlike, ComesBefore, are_together, flat_fault, flattened, group_of, is_defined, set_from, set_of};
 ghost use Rattle.np_flatten.specs.declared.fault.FlatFault.TheVariants.{Alike, Split};
-ghost use Rattle.np_table.specs.Said.{IsInFamily};
-ghost use Rattle.np_kinds.specs.Between.{between_pods, number_of_workloads, with_address};
+ghost use Rattle.np_table.specs.Prelude.{IsInFamily};
+ghost use Rattle.np_kinds.specs.Prelude.{between_pods, number_of_workloads, with_address};
 
 /// Where an estate has no fault, its flat policies without any other policy give the verdicts of the whole estate: between
 /// every two different pods, in each family of the list, and between each pod and every address, either way.

@@ -1,8 +1,8 @@
 //! What passes between two workloads, by rules that are found once.
 ghost use Rattle.std.specs.Prelude.{◌≡◌, ◌≢◌, ◌≤◌, IfOk, None, Some, if◌then◌else◌};
-ghost use Rattle.np_fold.specs.Workloads.{folding_of};
+ghost use Rattle.np_fold.specs.Prelude.{folding_of};
 ghost use Rattle.np_flatten.specs.Faults as spec;
-ghost use Rattle.np_kinds.specs.Between.{IsWorkload, is_alone};
+ghost use Rattle.np_kinds.specs.Prelude.{IsWorkload, is_alone};
 
 use np_addr::Family;
 use np_base::{Cells, NoMemory, Steps};

@@ -1,11 +1,10 @@
 //! The parts of flat policies: names, selectors, peers and ports.
 ghost use Rattle.std.specs.Prelude.{◌≡◌, ◌++◌, IfOk, OnOk, Some, map};
-ghost use Rattle.np_conns.specs.ConnsText.{is_whole};
+ghost use Rattle.np_conns.specs.Prelude.{is_whole};
 ghost use Rattle.np_model.specs.declared.network_policy.NetPeer.TheVariants.{Pods};
-ghost use Rattle.np_flatten.specs.Flat.{flat_name, rule_to_everyone};
-ghost use Rattle.np_flatten.specs.Ports.{ports_of, span_of};
+ghost use Rattle.np_flatten.specs.Prelude.{flat_name, ports_of, rule_to_everyone, span_of};
 ghost use Rattle.np_flatten.specs.Selecting as select;
-ghost use Rattle.np_table.specs.Rows.{is_nothing};
+ghost use Rattle.np_table.specs.Prelude.{is_nothing};
 
 use np_base::{NoMemory, PortNum, Range, Seq, Text};
 use np_conns::{ConnSet, Proto};

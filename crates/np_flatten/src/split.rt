@@ -1,9 +1,8 @@
 //! The first pair of workloads for which the families of the list differ.
 ghost use Rattle.std.specs.Prelude.{◌≡◌, ◌≤◌, IfOk};
-ghost use Rattle.np_flatten.specs.Faults.{is_split};
-ghost use Rattle.np_flatten.specs.Pairs.{first_pair};
+ghost use Rattle.np_flatten.specs.Prelude.{first_pair, is_split};
 ghost use Rattle.np_flatten.specs.steps.SplitRows as spec;
-ghost use Rattle.np_kinds.specs.Between.{number_of_workloads};
+ghost use Rattle.np_kinds.specs.Prelude.{number_of_workloads};
 
 use np_base::{NoMemory, Steps};
 use np_fold::Folded;

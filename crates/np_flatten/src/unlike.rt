@@ -2,11 +2,8 @@
 ghost use Rattle.std.specs.Prelude.{◌≡◌, ◌<◌, ◌≤◌, IfOk, length, map, slice_index};
 ghost use Rattle.np_classes.specs.Classes.{places};
 ghost use Rattle.np_flatten.specs.Faults as faults;
-ghost use Rattle.np_flatten.specs.Groups.{group_firsts, group_of};
-ghost use Rattle.np_flatten.specs.Pairs.{first_pair};
-ghost use Rattle.np_flatten.specs.steps.Least.{comes_before, with_number};
-ghost use Rattle.np_flatten.specs.steps.Unlike.{first_by};
-ghost use Rattle.np_kinds.specs.Between.{IsWorkload, number_of_workloads};
+ghost use Rattle.np_flatten.specs.Prelude.{comes_before, first_by, first_pair, group_firsts, group_of, with_number};
+ghost use Rattle.np_kinds.specs.Prelude.{IsWorkload, number_of_workloads};
 
 use crate::differ::differ;
 use crate::passing::Passing;

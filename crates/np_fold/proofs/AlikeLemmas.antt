@@ -9,23 +9,15 @@ use Rattle.std.specs.Ordering.{is_eq}
 use Rattle.std.proofs.lemmas.Bool.Decides.{Decides-and, Decides-eqb, Decides-like, same_from_decides}
 use Rattle.std.proofs.lemmas.List.Elements.{All-from_recursion, recursion_from_All}
 use Rattle.std.proofs.lemmas.Option.{same_Some, slice_get-map}
-use Rattle.np_conns.specs.Conns.{proto_number}
+use Rattle.np_conns.specs.Prelude.{proto_number}
 use Rattle.np_base.proofs.Lists.{slice_get-some}
 use Rattle.np_classes.specs.Classes.{IsAlike, keys_tie, of_both}
-use Rattle.np_fold.specs.Types.{Cidr, EstateLists, NamedPort, Owner, Pod, Traits}
-use Rattle.np_fold.specs.Alike.{Alike, IsSameKind, are_alike, are_both_in, are_same_kind, are_same_owner, are_same_port, have_same_value, is_in}
-use Rattle.np_fold.specs.Blocks.{cidrs_of_estate}
-use Rattle.np_fold.specs.Keys.{keys_of_estate}
-use Rattle.np_fold.specs.Order.{compare_traits}
-use Rattle.np_fold.specs.Traits.{traits_of, with_owner}
-use Rattle.np_fold.specs.steps.Folded.{HaveSame, nobody}
-use Rattle.np_fold.specs.Workloads.{first_pod, kinds_alike, pods_alike}
+use Rattle.np_fold.specs.Prelude.{Alike, Cidr, EstateLists, HaveSame, IsSameKind, NamedPort, Owner, Pod, Traits, are_alike, are_both_in, are_same_kind, are_same_owner, are_same_port, cidrs_of_estate, compare_traits, first_pod, have_same_value, is_in, keys_of_estate, kinds_alike, nobody, pods_alike, traits_of, with_owner}
 use Rattle.np_fold.proofs.BlockLemmas.{agree-from_test, test-from_agree}
 use Rattle.np_fold.proofs.LabelLemmas.{Decides-listed}
 use Rattle.np_fold.proofs.OrderLemmas.{protos, ties-equal}
 use Rattle.np_fold.proofs.TraitLemmas.{traits-alike, traits-same_kind}
-use Rattle.np_labels.specs.Labels.{value_of}
-use Rattle.np_labels.specs.Selectors.{is_listed}
+use Rattle.np_labels.specs.Prelude.{is_listed, value_of}
 
 -- ---- what a question decides
 

@@ -12,10 +12,9 @@ use Rattle.std.proofs.lemmas.List.Folds.{list_all_more}
 use Rattle.np_base.proofs.Bools.{and-leftwards}
 use Rattle.np_base.proofs.Orders.{second_ties}
 use Rattle.np_addr.specs.contracts.address.AddressOrd.TheImpl as address_ord
-use Rattle.np_fold.specs.Types.{Address, Cidr}
+use Rattle.np_fold.specs.Prelude.{Address, Cidr, HaveSame, block_at, start_of}
 use Rattle.np_addr.specs.declared.address.Address.TheVariants.{Four, Six}
 use Rattle.np_addr.specs.declared.cidr.Cidr.TheVariants as cidr
-use Rattle.np_fold.specs.steps.Folded.{HaveSame, block_at, start_of}
 use Rattle.np_fold.proofs.OrderLemmas.{first_ties, numbers}
 use mathlib.Core.Bool.{beq}
 

@@ -5,19 +5,13 @@ use Rattle.std.proofs.lemmas.List.Elements.{All-get_or}
 use Rattle.std.proofs.lemmas.Option.{slice_get-get_or}
 use Rattle.std.proofs.lemmas.Simd.{map-map}
 use Rattle.std.specs.Option.{option_and_then, option_map, option_map_or}
-use Rattle.np_fold.specs.Types.{Cidr, EstateLists, Named, Pod, Traits}
+use Rattle.np_fold.specs.Prelude.{Cidr, EstateLists, HaveSame, Named, Pod, Traits, cidrs_of_estate, classes_of_pods, compare_traits, first_kinds, first_pod, first_pods, keys_of_estate, kind_at, kind_traits, kinds_alike, kinds_of_workloads, named_first_pods, nobody, number_among, number_of, owner_name, owner_name_at, pods_alike, traits_of, workload_count}
 use Rattle.np_classes.specs.Classes.{class_of, firsts, keys_tie, places}
-use Rattle.np_fold.specs.Blocks.{cidrs_of_estate}
-use Rattle.np_fold.specs.steps.Folded.{HaveSame, classes_of_pods, first_kinds, kind_at, kind_traits, kinds_of_workloads, nobody, number_among}
-use Rattle.np_fold.specs.Keys.{keys_of_estate}
-use Rattle.np_fold.specs.Order.{compare_traits}
-use Rattle.np_fold.specs.Traits.{traits_of}
-use Rattle.np_fold.specs.Workloads.{first_pod, first_pods, kinds_alike, named_first_pods, number_of, owner_name, owner_name_at, pods_alike, workload_count}
 use Rattle.np_fold.proofs.AlikeLemmas.{keys_tie-kinds, keys_tie-pods}
 use Rattle.np_classes.proofs.Lists.{All-places, map_agree_on}
 use Rattle.np_classes.proofs.Relations.{firsts_within}
 use Rattle.np_fold.proofs.NumberLemmas.{count-is, named-within, number-rank}
-use Rattle.np_labels.specs.Selectors.{is_listed}
+use Rattle.np_labels.specs.Prelude.{is_listed}
 
 -- one more value of a function, at one more item
 pub one_more : {X Y : Type 0} (f : X → Y) (xs : List X) (i : ℕ) (d : X) (made : List Y) (y : Y) → i < length xs → made ≡ map f (take i xs) → y ≡ f (get_or xs i d) →

@@ -5,12 +5,9 @@ use Rattle.std.specs.List.{flat_map}
 use Rattle.std.specs.Str.{bytes_eq}
 use Rattle.std.proofs.lemmas.Bool.{false≢true, or_cases}
 use Rattle.std.proofs.lemmas.List.Folds.{list_any-append}
-use Rattle.np_fold.specs.Types.{AdminPeer, AdminRule, BasePolicy, EstateLists, NetPeer, NetPolicy, NetRule, Selector, Subject}
+use Rattle.np_fold.specs.Prelude.{AdminPeer, AdminRule, BasePolicy, EstateLists, IsInForce, IsNamed, IsOfAdmin, IsOfAdminPeer, IsOfAdminRules, IsOfNetDirection, IsOfNetPeer, IsOfNetPolicy, IsOfNetRule, NetPeer, NetPolicy, NetRule, Selector, Subject, keys_of_admin_peer, keys_of_admin_policy, keys_of_admin_rule, keys_of_baseline, keys_of_estate, keys_of_net_direction, keys_of_net_peer, keys_of_net_policy, keys_of_net_rule, keys_of_optional, keys_of_selector, keys_of_service, keys_of_subject}
 use Rattle.np_fold.specs.InForce as force
-use Rattle.np_fold.specs.InForce.{IsInForce, IsNamed, IsOfAdmin, IsOfAdminPeer, IsOfAdminRules, IsOfNetDirection, IsOfNetPeer, IsOfNetPolicy, IsOfNetRule}
-use Rattle.np_fold.specs.Keys.{keys_of_admin_peer, keys_of_admin_policy, keys_of_admin_rule, keys_of_baseline, keys_of_estate, keys_of_net_direction, keys_of_net_peer, keys_of_net_policy}
-use Rattle.np_fold.specs.Keys.{keys_of_net_rule, keys_of_optional, keys_of_selector, keys_of_service, keys_of_subject}
-use Rattle.np_labels.specs.Selectors.{is_listed}
+use Rattle.np_labels.specs.Prelude.{is_listed}
 use Rattle.np_model.specs.declared.admin_policy.AdminPeer.TheVariants as admin
 use Rattle.np_model.specs.declared.network_policy.NetPeer.TheVariants as net
 

@@ -14,12 +14,9 @@ use Rattle.std.proofs.lemmas.List.{map-append}
 use Rattle.std.proofs.lemmas.List.Elements.{filter_more}
 use Rattle.std.proofs.Math.Bool.{or-true}
 use Rattle.np_base.specs.Texts.{compare_texts}
-use Rattle.np_fold.specs.Traits.{label_of}
-use Rattle.np_fold.specs.Types.{Label, Pair}
+use Rattle.np_fold.specs.Prelude.{Label, Pair, label_of}
 use Rattle.np_labels.proofs.Ascending.{same_by_values}
-use Rattle.np_labels.specs.Labels.{HasAscendingKeys, keys_of, value_of}
-use Rattle.np_labels.specs.Selectors.{is_listed}
-use Rattle.np_labels.specs.Values.{is_ascending, is_below}
+use Rattle.np_labels.specs.Prelude.{HasAscendingKeys, is_ascending, is_below, is_listed, keys_of, value_of}
 
 abbrev label_with : List ℕ → List ℕ → Label
 label_with key value = record { key = key; value = value }

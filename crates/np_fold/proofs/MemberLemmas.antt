@@ -16,9 +16,7 @@ use Rattle.std.specs.String.{string_bytes, string_eq}
 use Rattle.std.specs.declared.alloc.Global.{Global}
 use Rattle.indexmap.specs.IndexMap.{insert_entry}
 use Rattle.np_classes.specs.Classes.{numbered, places}
-use Rattle.np_fold.specs.Types.{EstateLists, Named}
-use Rattle.np_fold.specs.steps.Folded.{workload_of, workload_of_pair}
-use Rattle.np_fold.specs.Workloads.{Folding, Workload, named_first_pods, number_named, number_of, workload, workload_of_entry, workloads_of}
+use Rattle.np_fold.specs.Prelude.{EstateLists, Folding, Named, Workload, named_first_pods, number_named, number_of, workload, workload_of, workload_of_entry, workload_of_pair, workloads_of}
 use Rattle.np_fold.proofs.NumberLemmas.{members-by_number}
 
 -- ---- the workload of a name

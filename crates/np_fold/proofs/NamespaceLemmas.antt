@@ -3,8 +3,8 @@ use Rattle.std.proofs.Common.{◌≡◌, ◌<◌, ℕ, List, AllPairs, Option, S
 use Rattle.std.specs.List.{slice_get}
 use Rattle.std.proofs.lemmas.Bool.{cases_order}
 use Rattle.std.proofs.lemmas.Option.{get_or_from_slice_get, slice_get_within}
-use Rattle.np_model.specs.Lawful.{AgreeOnNamespace, IsLawful}
-use Rattle.np_fold.specs.Types.{EstateLists, Pod}
+use Rattle.np_model.specs.Prelude.{AgreeOnNamespace, IsLawful}
+use Rattle.np_fold.specs.Prelude.{EstateLists, Pod}
 
 -- pods that stand in order and are of one namespace have the same labels of it
 namespaces_agree : (pods : List Pod) (i j : ℕ) (a b : Pod) → AllPairs AgreeOnNamespace pods → slice_get pods i ≡ Some a → slice_get pods j ≡ Some b → i < j → AgreeOnNamespace a b

@@ -17,8 +17,7 @@ use Rattle.np_base.proofs.Bools.{eq-swap}
 use Rattle.np_classes.specs.Classes.{class_of, members, numbered, places}
 use Rattle.np_classes.proofs.Lists.{All-places, any_filter, any_place, filter_agree_on, place_that_passes, position_agree_on}
 use Rattle.np_classes.proofs.Relations.{alike_in_class, class_of_first, class_within, firsts_within, same_class}
-use Rattle.np_fold.specs.Types.{EstateLists, Named, Pod}
-use Rattle.np_fold.specs.Workloads.{first_of, first_pods, has_member, named_first_pods, number_of, owner_name, owner_name_at, owner_names, pods_alike, pods_like, workload, workloads_of}
+use Rattle.np_fold.specs.Prelude.{EstateLists, Named, Pod, first_of, first_pods, has_member, named_first_pods, number_of, owner_name, owner_name_at, owner_names, pods_alike, pods_like, workload, workloads_of}
 use Rattle.np_fold.proofs.AlikeLemmas.{alike-is}
 use Rattle.np_names.specs.Names.{EndsInBracket, named}
 use Rattle.np_names.proofs.NumberLemmas.{names-in-order, number-of-one, one-of-place}

@@ -7,9 +7,8 @@ use Rattle.np_base.proofs.Orders.{second_ties}
 use Rattle.np_base.specs.Texts.{compare_texts}
 use Rattle.np_conns.specs.declared.proto.Proto.{Proto}
 use Rattle.np_conns.specs.declared.proto.Proto.TheVariants.{Tcp, Udp, Sctp}
-use Rattle.np_conns.specs.Conns.{proto_number}
-use Rattle.np_fold.specs.Order.{compare_labels, compare_owners, compare_ports, compare_traits, traits_total}
-use Rattle.np_fold.specs.Types.{Traits}
+use Rattle.np_conns.specs.Prelude.{proto_number}
+use Rattle.np_fold.specs.Prelude.{Traits, compare_labels, compare_owners, compare_ports, compare_traits, traits_total}
 
 -- only equal values tie
 abbrev TiesOnlyEqual : {K : Type 0} → (K → K → Ordering) → Type 0

@@ -4,10 +4,8 @@ use Rattle.std.specs.Prelude.{codes}
 use Rattle.std.specs.List.{list_all, list_any}
 use Rattle.std.proofs.lemmas.Bool.{and_parts, eqb-true, false_from_ne_true, not-true, or_from, or_parts, true≢false}
 use Rattle.std.proofs.lemmas.List.{same_from_push}
-use Rattle.np_model.specs.Lawful.{is_well_pod}
-use Rattle.np_fold.specs.Types.{Pod}
-use Rattle.np_fold.specs.Workloads.{owner_name}
-use Rattle.np_model.specs.Words.{is_name, is_word_byte}
+use Rattle.np_model.specs.Prelude.{is_name, is_well_pod, is_word_byte}
+use Rattle.np_fold.specs.Prelude.{Pod, owner_name}
 
 -- ---- texts without a byte
 

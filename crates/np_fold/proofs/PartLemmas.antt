@@ -10,15 +10,12 @@ use Rattle.std.specs.List.Sorted.{IsStrictlySortedBy}
 use Rattle.std.specs.Ordering.{nat_cmp}
 use Rattle.std.specs.declared.alloc.Global.{Global}
 use Rattle.np_classes.specs.Classes.{firsts, is_first, numbered, places}
-use Rattle.np_fold.specs.Types.{EstateLists, Named}
-use Rattle.np_fold.specs.steps.Folded.{classes_of_pods, first_kinds, kinds_of_workloads, number_among, workload_of_pair}
-use Rattle.np_fold.specs.Keys.{keys_of_estate, with_keys}
-use Rattle.np_fold.specs.Workloads.{Folding, Workload, folding_of, kinds_alike, named_first_pods, number_of, workload, workload_count, workload_of_entry, workloads_of}
+use Rattle.np_fold.specs.Prelude.{EstateLists, Folding, Named, Workload, classes_of_pods, first_kinds, folding_of, keys_of_estate, kinds_alike, kinds_of_workloads, named_first_pods, number_among, number_of, with_keys, workload, workload_count, workload_of_entry, workload_of_pair, workloads_of}
 use Rattle.np_fold.proofs.FoldLemmas.{numbers-are}
 use Rattle.np_fold.proofs.MemberLemmas.{workloads-are}
 use Rattle.np_fold.proofs.NumberLemmas.{classes-within, count-is, named-within, names-strict, numbers-within}
 use Rattle.np_labels.proofs.Distinct.{distinct-sorted, is_listed-distinct}
-use Rattle.np_labels.specs.Selectors.{is_listed}
+use Rattle.np_labels.specs.Prelude.{is_listed}
 
 -- the relevant keys are those that selectors name
 pub keys-agree : (keys made more : List (List ℕ)) → made ≡ keys → keys ≡ with_keys [] more → (key : List ℕ) → is_listed made key ≡ is_listed more key

@@ -1,10 +1,8 @@
 -- Labels that a selector does not tell apart. For crates above.
 use Rattle.std.proofs.Common.{◌≡◌, ℕ, List, [], ◌∷◌, map, ◌&&◌, Option, refl, ap, ◌∙◌}
 use Rattle.std.specs.List.{AllByRecursion, list_all}
-use Rattle.np_fold.specs.Keys.{keys_of_selector}
-use Rattle.np_labels.specs.Labels.{AgreeOn}
-use Rattle.np_labels.specs.Selectors.{allows, meets_requirement, meets_selector}
-use Rattle.np_fold.specs.Types.{Pair, Selector}
+use Rattle.np_fold.specs.Prelude.{Pair, Selector, keys_of_selector}
+use Rattle.np_labels.specs.Prelude.{AgreeOn, allows, meets_requirement, meets_selector}
 use Rattle.np_labels.specs.declared.requirement.Requirement.{Requirement}
 
 requirements-agree : (one other : List Pair) (requirements : List Requirement) → AllByRecursion (AgreeOn one other) (map (λ requirement. requirement.key) requirements) →

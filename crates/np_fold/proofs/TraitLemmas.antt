@@ -2,15 +2,10 @@
 use Rattle.std.proofs.Common.{◌≡◌, ◌↔◌, ℕ, List, refl, sym, ap, ◌∙◌}
 use Rattle.std.specs.List.{filter_map}
 use Rattle.std.proofs.lemmas.List.Elements.{All-from_recursion, recursion_from_All}
-use Rattle.np_fold.specs.Types.{Cidr, EstateLists, Owner, Pod, Traits}
-use Rattle.np_fold.specs.Alike.{Alike, IsSameKind, is_in}
-use Rattle.np_fold.specs.Blocks.{cidrs_of_estate}
-use Rattle.np_fold.specs.Keys.{keys_of_estate}
-use Rattle.np_fold.specs.Traits.{blocks_of, label_of, traits_of, with_owner}
-use Rattle.np_fold.specs.steps.Folded.{HaveSame}
+use Rattle.np_fold.specs.Prelude.{Alike, Cidr, EstateLists, HaveSame, IsSameKind, Owner, Pod, Traits, blocks_of, cidrs_of_estate, is_in, keys_of_estate, label_of, traits_of, with_owner}
 use Rattle.np_fold.proofs.BlockLemmas.{agree-from_blocks, blocks-from_agree}
 use Rattle.np_fold.proofs.LabelLemmas.{labels-from_values, values-from_labels}
-use Rattle.np_labels.specs.Selectors.{is_listed}
+use Rattle.np_labels.specs.Prelude.{is_listed}
 
 module _ (lists : EstateLists) (keys : List (List ℕ)) (same : (key : List ℕ) → is_listed keys key ≡ is_listed (keys_of_estate lists) key) (cidrs : List Cidr)
     (blocks : HaveSame cidrs (cidrs_of_estate lists)) (a b : Pod) where

@@ -18,10 +18,7 @@ use Rattle.np_base.proofs.Lists.{slice_get-some}
 use Rattle.np_classes.specs.Classes.{class_of, firsts, is_first, members, places}
 use Rattle.np_classes.proofs.Lists.{All-places, any_place}
 use Rattle.np_classes.proofs.Relations.{alike_in_class, same_class}
-use Rattle.np_fold.specs.Types.{EstateLists, Named, Pod}
-use Rattle.np_fold.specs.Alike.{Alike, IsSameKind, are_alike, are_same_kind}
-use Rattle.np_fold.specs.Workloads.{Workload, first_of, first_pod, first_pods, folding_of, has_member, kinds_alike, members_of, named_first_pods, number_of, owner_names, pods_alike, pods_like}
-use Rattle.np_fold.specs.Workloads.{workload, workload_count, workloads_of}
+use Rattle.np_fold.specs.Prelude.{Alike, EstateLists, IsSameKind, Named, Pod, Workload, are_alike, are_same_kind, first_of, first_pod, first_pods, folding_of, has_member, kinds_alike, members_of, named_first_pods, number_of, owner_names, pods_alike, pods_like, workload, workload_count, workloads_of}
 use Rattle.np_fold.proofs.AlikeLemmas.{alike_decide, alike-is, kinds_decide, kinds-are}
 use Rattle.np_fold.proofs.NumberLemmas.{count-is, first-within, has_member-is, named-number, names-strict, number-is, number-rank, number-within, place-within}
 use Rattle.np_names.specs.Names.{named}

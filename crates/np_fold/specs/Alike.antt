@@ -4,13 +4,12 @@ use Rattle.std.specs.Cmp.Lexicographic.{pointwise}
 use Rattle.std.specs.List.{list_all, list_any}
 use Rattle.std.specs.Option.{option_eq}
 use Rattle.std.specs.Str.{bytes_eq}
-use Rattle.np_conns.specs.Conns.{proto_number}
-use Rattle.np_addr.specs.Addresses.{cidr_has}
+use Rattle.np_conns.specs.Prelude.{proto_number}
+use Rattle.np_addr.specs.Prelude.{cidr_has}
 use Rattle.np_fold.specs.Types.{Address, Cidr, EstateLists, NamedPort, Owner, Pod}
 use Rattle.np_fold.specs.Blocks.{cidrs_of_estate}
 use Rattle.np_fold.specs.Keys.{keys_of_estate}
-use Rattle.np_labels.specs.Labels.{value_of}
-use Rattle.np_labels.specs.Selectors.{is_listed}
+use Rattle.np_labels.specs.Prelude.{is_listed, value_of}
 use mathlib.Core.Bool.{beq}
 
 -- whether some of the addresses is in the block

@@ -1,7 +1,7 @@
 -- The selectors that are in force, whose keys tell pods apart.
 use Rattle.std.specs.Prelude.{◌≡◌, ℕ, List, Option, Some, Contains, true, map}
 use Rattle.np_fold.specs.Types.{AdminPeer, AdminPolicy, AdminRule, BasePolicy, EstateLists, NetPeer, NetPolicy, NetRule, Selector, ServiceItem, Subject}
-use Rattle.np_labels.specs.Selectors.{is_listed}
+use Rattle.np_labels.specs.Prelude.{is_listed}
 use Rattle.np_model.specs.declared.admin_policy.AdminPeer.TheVariants as admin
 use Rattle.np_model.specs.declared.network_policy.NetPeer.TheVariants as net
 

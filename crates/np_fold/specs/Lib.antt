@@ -4,7 +4,8 @@ pub mod Faults
 pub mod InForce
 pub mod Keys
 pub mod Order
+pub mod Prelude
+pub mod steps
 pub mod Traits
 pub mod Types
 pub mod Workloads
-pub mod steps

@@ -4,7 +4,7 @@ use Rattle.std.specs.Cmp.Lexicographic.{slice_cmp, lists_total, nat_list_cmp_tot
 use Rattle.std.specs.Ordering.{nat_cmp, on, ordering_then, then_cmp}
 use Rattle.std.specs.declared.cmp.Ordering.{Ordering}
 use Rattle.np_base.specs.Texts.{compare_texts}
-use Rattle.np_conns.specs.Conns.{proto_number}
+use Rattle.np_conns.specs.Prelude.{proto_number}
 use Rattle.np_fold.specs.Types.{Label, NamedPort, Owner, Traits}
 
 -- by kind, and then by name

@@ -4,7 +4,7 @@ use Rattle.std.specs.List.{enumerate_from, filter_map}
 use Rattle.std.specs.Option.{option_map}
 use Rattle.np_fold.specs.Types.{Address, Cidr, Label, Owner, Pair, Pod, Traits}
 use Rattle.np_fold.specs.Alike.{is_in}
-use Rattle.np_labels.specs.Labels.{value_of}
+use Rattle.np_labels.specs.Prelude.{value_of}
 
 -- the label of a key, where it has a value
 abbrev pub label_of : List Pair → List ℕ → Option Label

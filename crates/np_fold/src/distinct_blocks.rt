@@ -1,6 +1,6 @@
 //! The blocks of addresses by which rules select pods, each once.
 ghost use Rattle.std.specs.Prelude.{◌≡◌, IfOk, map};
-ghost use Rattle.np_fold.specs.Blocks.{cidrs_of_estate};
+ghost use Rattle.np_fold.specs.Prelude.{cidrs_of_estate};
 ghost use Rattle.np_fold.specs.steps.Folded as folded;
 
 use crate::blocks::listed_cidrs;

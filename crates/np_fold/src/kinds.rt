@@ -4,11 +4,10 @@ ghost use Rattle.std.specs.Cmp.Lexicographic.{slice_cmp};
 ghost use Rattle.std.specs.List.Sorted.{IsStrictlySortedBy};
 ghost use Rattle.std.specs.Ordering.{nat_cmp};
 ghost use Rattle.np_classes.specs.Classes.{class_of, firsts, places};
-ghost use Rattle.np_fold.specs.Blocks.{cidrs_of_estate};
+ghost use Rattle.np_fold.specs.Prelude.{cidrs_of_estate, keys_of_estate};
 ghost use Rattle.np_fold.specs.steps.Folded as folded;
-ghost use Rattle.np_fold.specs.Keys.{keys_of_estate};
 ghost use Rattle.np_fold.specs.Workloads as spec;
-ghost use Rattle.np_labels.specs.Selectors.{is_listed};
+ghost use Rattle.np_labels.specs.Prelude.{is_listed};
 
 use crate::traits::{Traits, traits_with};
 use np_addr::Cidr;

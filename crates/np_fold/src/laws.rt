@@ -6,17 +6,11 @@ ghost use Rattle.std.specs.Ordering.{nat_cmp};
 ghost use Rattle.std.specs.declared.cmp.Ordering.TheVariants.{Equal};
 ghost use Rattle.np_model.specs.declared.lists.EstateLists.{EstateLists};
 ghost use Rattle.np_model.specs.declared.pod.Pod.{Pod};
-ghost use Rattle.np_model.specs.Lawful.{is_well_pod};
-ghost use Rattle.np_fold.specs.Alike.{Alike, IsSameKind, are_alike, are_same_kind};
-ghost use Rattle.np_fold.specs.Blocks.{cidrs_of_estate};
-ghost use Rattle.np_fold.specs.InForce.{IsNamed};
-ghost use Rattle.np_fold.specs.Keys.{keys_of_estate};
-ghost use Rattle.np_fold.specs.Order.{compare_traits};
-ghost use Rattle.np_fold.specs.Traits.{traits_of, with_owner};
-ghost use Rattle.np_fold.specs.Workloads.{Workload, first_pod, folding_of, has_member, kinds_alike, members_of, number_of, owner_name, workload_count, workloads_of};
+ghost use Rattle.np_model.specs.Prelude.{is_well_pod};
+ghost use Rattle.np_fold.specs.Prelude.{Alike, IsNamed, IsSameKind, Workload, are_alike, are_same_kind, cidrs_of_estate, compare_traits, first_pod, folding_of, has_member, keys_of_estate, kinds_alike, members_of, number_of, owner_name, traits_of, with_owner, workload_count, workloads_of};
 ghost use Rattle.np_fold.specs.declared.traits.Traits.{Traits};
 ghost use Rattle.np_classes.specs.Classes.{class_of};
-ghost use Rattle.np_labels.specs.Selectors.{is_listed};
+ghost use Rattle.np_labels.specs.Prelude.{is_listed};
 ghost use Rattle.np_model.specs.declared.owner.Owner.{Owner};
 
 /// Two pods have equal traits exactly where they are alike: by any keys that are those that selectors name, in

@@ -2,7 +2,7 @@
 ghost use Rattle.std.specs.Prelude.{◌≡◌};
 ghost use Rattle.std.specs.Cmp.Lexicographic.{slice_cmp};
 ghost use Rattle.np_fold.specs.Order as spec;
-ghost use Rattle.np_conns.specs.Conns.{proto_number};
+ghost use Rattle.np_conns.specs.Prelude.{proto_number};
 
 use crate::traits::Traits;
 use np_conns::Proto;

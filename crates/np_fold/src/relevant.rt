@@ -5,7 +5,7 @@ ghost use Rattle.std.specs.List.Sorted.{IsStrictlySortedBy};
 ghost use Rattle.std.specs.Option.{option_copied};
 ghost use Rattle.std.specs.Ordering.{nat_cmp};
 ghost use Rattle.std.specs.Cmp.Lexicographic.{slice_cmp};
-ghost use Rattle.np_labels.specs.Selectors.{is_listed};
+ghost use Rattle.np_labels.specs.Prelude.{is_listed};
 ghost use Rattle.np_fold.specs.Keys as spec;
 
 use np_base::{NoMemory, Seq, Text};

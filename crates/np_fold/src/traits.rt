@@ -5,8 +5,7 @@ ghost use Rattle.std.specs.List.{filter_map};
 ghost use Rattle.std.specs.List.Sorted.{IsStrictlySortedBy};
 ghost use Rattle.std.specs.Ordering.{nat_cmp};
 ghost use Rattle.np_fold.specs.Traits as spec;
-ghost use Rattle.np_labels.specs.Labels.{HasAscendingKeys};
-ghost use Rattle.np_labels.specs.Selectors.{is_listed};
+ghost use Rattle.np_labels.specs.Prelude.{HasAscendingKeys, is_listed};
 
 use np_addr::{Addresses, Cidr};
 use np_base::{NoMemory, Seq, Text, TryCopy};

@@ -1,6 +1,5 @@
 -- Reading the inputs of a job one after another. For `read_all` and crates above.
-use Rattle.std.proofs.Common.{◌≡◌, ℕ, zero, suc, ◌+◌, ◌^◌, ◌<◌, ◌≤◌, List, [], ◌∷◌, ◌++◌, length, take, drop, get_or, map, Option, Some, None, is_some, IsSome, true, refl, sym, ap, ◌∙◌, subst, inl}
-use Rattle.std.proofs.Common.{inr, arith, Vec, append_assoc, append-nil, add-zero}
+use Rattle.std.proofs.Common.{◌≡◌, ℕ, zero, suc, ◌+◌, ◌^◌, ◌<◌, ◌≤◌, List, [], ◌∷◌, ◌++◌, length, take, drop, get_or, map, Option, Some, None, is_some, IsSome, true, refl, sym, ap, ◌∙◌, subst, inl, inr, arith, Vec, append_assoc, append-nil, add-zero}
 use Rattle.std.specs.Prelude.{◌⊎◌, Contains}
 use Rattle.std.specs.Option.{option_map}
 use Rattle.std.specs.declared.alloc.Global.{Global}
@@ -8,9 +7,8 @@ use Rattle.std.proofs.lemmas.Bool.{lt-ltb, cases_lt, true≢false}
 use Rattle.std.proofs.lemmas.List.{get_or_read, length-take-le, map-append, take-append-drop, take_more}
 use Rattle.std.proofs.lemmas.List.Elements.{Contains-append_left, Contains-append_right, Contains-get_or}
 use Rattle.std.proofs.lemmas.List.Sums.{sum_by-append, sum_by_more_le}
-use Rattle.np_io.specs.Counts.{Rose, handed_after}
-use Rattle.np_io.specs.Source.{BeganNext, IsTold}
-use Rattle.np_frame.specs.Sources.{AreTold, BeganFront, FailedAt, HandedOut, SourceTrace, Unread, NextUnread, total_size, is_too_large}
+use Rattle.np_io.specs.Prelude.{BeganNext, IsTold, Rose, handed_after}
+use Rattle.np_frame.specs.Prelude.{AreTold, BeganFront, FailedAt, HandedOut, NextUnread, SourceTrace, Unread, is_too_large, total_size}
 use Rattle.np_frame.specs.declared.sources.TheConstants.{SIZE_LIMIT}
 use Rattle.np_frame.specs.declared.sources.SourceFault.{SourceFault}
 use Rattle.np_frame.specs.declared.sources.SourceFault.TheVariants.{CannotRead, TooLarge, NoMemory}

@@ -1,4 +1,5 @@
 pub mod Failures
 pub mod NoteTexts
+pub mod Prelude
 pub mod Sources
 pub mod Words

@@ -2,7 +2,7 @@
 use Rattle.std.specs.Prelude.{ℕ, List, [], ◌++◌, ◌==◌, codes, decimal, flat_map, if◌then◌else◌}
 use Rattle.np_model.specs.declared.notes.Notes.{Notes}
 use Rattle.np_frame.specs.declared.notes.ReportNotes.{ReportNotes}
-use Rattle.np_routes.specs.RouteNotes.{route_note_text}
+use Rattle.np_routes.specs.Prelude.{route_note_text}
 use Rattle.np_routes.specs.declared.route_note.RouteNote.{RouteNote}
 
 -- the line of a note, where its number is not 0

@@ -1,7 +1,6 @@
 -- What the inputs of a job tell, how they are read, and why they are not.
 use Rattle.std.specs.Prelude.{◌≡◌, ◌<◌, ◌≤◌, ◌+◌, ◌-◌, ◌^◌, min, ℕ, List, [], ◌∷◌, ◌++◌, Bool, true, Option, length, sum_by, nat_lt, take}
-use Rattle.np_io.specs.Counts.{Rose}
-use Rattle.np_io.specs.Source.{BeganNext, IsTold}
+use Rattle.np_io.specs.Prelude.{BeganNext, IsTold, Rose}
 use Rattle.np_frame.specs.declared.sources.TheConstants.{SIZE_LIMIT}
 use Rattle.np_frame.specs.declared.sources.SourceFault.{SourceFault}
 use Rattle.np_frame.specs.declared.sources.SourceFault.TheVariants.{CannotRead, TooLarge, NoMemory}

@@ -1,9 +1,9 @@
 -- The names that a command line asks for, and which of their bytes are read for objects.
 use Rattle.std.specs.Prelude.{ℕ, List, [], ◌∷◌, Option, Result, drop}
 use Rattle.std.specs.Option.{option_map_or}
-use Rattle.np_sample.specs.Sample.{sample_text}
+use Rattle.np_sample.specs.Prelude.{sample_text}
 use Rattle.np_model.specs.declared.lists.EstateLists.{EstateLists}
-use Rattle.np_command.specs.Inputs.{lists_of}
+use Rattle.np_command.specs.Prelude.{lists_of}
 use Rattle.np_command.specs.declared.fault.Fault.{Fault}
 use Rattle.np_args.specs.declared.job.Job.{Job}
 use Rattle.np_args.specs.declared.job.Job.TheVariants.{Check, Evaluate, Explain, Exposure, Flatten, List as ListJob, Sample, Unused}

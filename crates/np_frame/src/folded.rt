@@ -1,7 +1,7 @@
 //! What the bytes of the inputs say, folded.
 ghost use Rattle.std.specs.Prelude.{◌≡◌, ◌<◌, ◌≤◌, ℕ, Err, IfOk, OnOk, map};
 ghost use Rattle.np_command.specs.Inputs as spec;
-ghost use Rattle.np_model.specs.Lawful.{IsLawful};
+ghost use Rattle.np_model.specs.Prelude.{IsLawful};
 
 use np_command::Failure;
 use np_fold::Folded;

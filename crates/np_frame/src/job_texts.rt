@@ -1,8 +1,8 @@
 //! What a job reads, and which of its bytes hold the objects.
 ghost use Rattle.std.specs.Prelude.{◌≡◌, ◌++◌, IfOk, OnOk, map};
-ghost use Rattle.np_command.specs.Inputs.{Gives};
+ghost use Rattle.np_command.specs.Prelude.{Gives};
 ghost use Rattle.np_frame.specs.Words as spec;
-ghost use Rattle.np_args.specs.Jobs.{IsWell};
+ghost use Rattle.np_args.specs.Prelude.{IsWell};
 
 use crate::folded::read_folded;
 use np_args::Job;

@@ -1,7 +1,6 @@
 //! The bytes of all inputs of a job.
 ghost use Rattle.std.specs.Prelude.{◌≡◌, ◌≤◌, ◌<◌, ℕ, List, [], ◌∷◌, length, map, is_some, IfOk, IfErr, OnOk, IsErrOf};
-ghost use Rattle.np_io.specs.Counts.{Rose, handed_after};
-ghost use Rattle.np_io.specs.Source.{BeganNext, IsTold};
+ghost use Rattle.np_io.specs.Prelude.{BeganNext, IsTold, Rose, handed_after};
 ghost use Rattle.np_frame.specs.Sources.{AreTold, ReadOnce, Unread, NextUnread, NamesInput, sourced, total_size};
 
 use np_base::{NoMemory, Text};

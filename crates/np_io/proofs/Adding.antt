@@ -7,7 +7,7 @@ use Rattle.std.proofs.lemmas.List.{get_or_append_left, get_or_push}
 use Rattle.std.proofs.lemmas.Slice.Eq.{bytes_eq-Decides}
 use Rattle.np_base.proofs.Lists.{slice_get-push_other, slice_get-push_same}
 use Rattle.np_io.specs.declared.held.Held.{Held}
-use Rattle.np_io.specs.Memory.{is_named, place_of, bytes_at}
+use Rattle.np_io.specs.Prelude.{bytes_at, is_named, place_of}
 use Rattle.np_io.proofs.Places.{position_from-push_found, position_from-push_none, position_from-set, held_at}
 
 slice_get-set_same : {X : Type 0} (xs : List X) (k : ℕ) (x y : X) → slice_get xs k ≡ Some x → slice_get (set xs k y) k ≡ Some y

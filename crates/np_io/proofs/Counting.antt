@@ -4,7 +4,7 @@ use Rattle.std.specs.List.{slice_index}
 use Rattle.std.specs.Option.{option_map_or}
 use Rattle.std.proofs.lemmas.Bool.{cases_eq}
 use Rattle.std.proofs.lemmas.List.{get_or_default}
-use Rattle.np_io.specs.Counts.{NeverFalls}
+use Rattle.np_io.specs.Prelude.{NeverFalls}
 
 -- no count falls where the one at a place is raised
 pub never_falls : (faults : List ℕ) (shared place before after : ℕ) (other : Option ℕ) → place < length faults → before ≡ get_or faults place before → NeverFalls before after →

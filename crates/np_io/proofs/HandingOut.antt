@@ -4,7 +4,7 @@ use Rattle.std.specs.Option.{option_map_or}
 use Rattle.std.proofs.lemmas.List.{take-append-drop, drop-drop}
 use Rattle.np_io.specs.declared.mem_inputs.Begun.{Begun}
 use Rattle.np_io.specs.declared.held.Held.{Held}
-use Rattle.np_io.specs.Memory.{bytes_at}
+use Rattle.np_io.specs.Prelude.{bytes_at}
 
 -- what was left is what was handed out, and then what is left behind it
 pub handed_on : (held : List Held) (begun : Option Begun) (place at n : ℕ) (into : List ℕ) → begun ≡ Some (record { place = place; at = at }) → take n into ≡ take n (drop at (bytes_at held place)) →

@@ -6,7 +6,7 @@ use Rattle.std.proofs.lemmas.List.Quantifiers.{position-Some}
 use Rattle.std.proofs.lemmas.Option.{slice_get-get_or}
 use Rattle.std.proofs.lemmas.Slice.Eq.{bytes_eq-Decides}
 use Rattle.np_io.specs.declared.held.Held.{Held}
-use Rattle.np_io.specs.Memory.{is_named, place_of, name_at}
+use Rattle.np_io.specs.Prelude.{is_named, name_at, place_of}
 
 -- a search that goes on from its first element as another one does
 goes_on : {A : Type 0} (b : Bool) (here found behind behind' : Option A) → cond b here behind ≡ found → (behind ≡ found → behind' ≡ found) → cond b here behind' ≡ found

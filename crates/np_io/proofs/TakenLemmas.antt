@@ -2,7 +2,7 @@
 -- For `BufferedSink::put` and crates above.
 use Rattle.std.proofs.Common.{◌≡◌, ◌<◌, ℕ, List, [], ◌++◌, length, Option, Some, None, refl, sym, ap, subst, ◌∙◌, append_assoc, append-nil, arith, length-append}
 use Rattle.std.specs.Io.KnownBytes.{append_known}
-use Rattle.np_io.specs.Taken.{TookAllBut, TookFront, TookLess}
+use Rattle.np_io.specs.Prelude.{TookAllBut, TookFront, TookLess}
 
 -- ---- bytes that are taken one after another
 

@@ -2,7 +2,7 @@
 use Rattle.std.proofs.Common.{◌≡◌, ℕ, ◌+◌, ◌-◌, ◌≤◌, List, ◌++◌, length, take, drop, Option, sym, refl, ap, ◌∙◌, arith}
 use Rattle.std.specs.Io.KnownBytes.{append_known}
 use Rattle.std.proofs.lemmas.List.{take-append-drop, take-take, drop-take, take_rest}
-use Rattle.np_io.specs.Taken.{TookFront}
+use Rattle.np_io.specs.Prelude.{TookFront}
 use Rattle.np_io.proofs.TakenLemmas.{append_known-append_known}
 
 -- the first bytes, and then the next ones

@@ -1,6 +1,6 @@
 //! Counts that stay at the greatest `u64` once they are there.
 ghost use Rattle.std.specs.Prelude.{◌≡◌, ◌↔◌, IsTrue, Contains};
-ghost use Rattle.np_io.specs.Counts.{NeverFalls, raised};
+ghost use Rattle.np_io.specs.Prelude.{NeverFalls, raised};
 
 // Counts one more.
 pub(crate) fn count(total: &mut u64)

@@ -1,6 +1,5 @@
 //! A source in memory, whose failures are chosen beforehand.
-ghost use Rattle.std.specs.Prelude.{◌≡◌, ◌≢◌, ℕ, ◌∷◌, ◌++◌, List, [], min, ◌+◌, ◌^◌, ◌<◌};
-ghost use Rattle.std.specs.Prelude.{Some, None, length, take, drop, IfSome, OnOk, OnErr};
+ghost use Rattle.std.specs.Prelude.{◌≡◌, ◌≢◌, ℕ, ◌∷◌, ◌++◌, List, [], min, ◌+◌, ◌^◌, ◌<◌, Some, None, length, take, drop, IfSome, OnOk, OnErr};
 ghost use Rattle.np_io.specs.Memory.{empty_source, place_of, bytes_at, IsBegunAt};
 ghost use Rattle.np_io.specs.Source.{BeganNext};
 

@@ -3,9 +3,8 @@ use Rattle.std.proofs.Common.{◌≡◌, ℕ, ◌+◌, ◌<◌, List, [], ◌∷
 use Rattle.std.proofs.lemmas.List.{drop_more}
 use Rattle.serde_json.specs.View.{view}
 use Rattle.serde_json.specs.declared.value.Value.{Value}
-use Rattle.np_json.specs.Shapes.{◌>>=◌}
-use Rattle.np_items.specs.Items.{each_item, item_of}
-use Rattle.np_items.specs.Readings.{Reading}
+use Rattle.np_json.specs.Prelude.{◌>>=◌}
+use Rattle.np_items.specs.Prelude.{Reading, each_item, item_of}
 use Rattle.np_items.specs.declared.item.Item.{Item}
 use Rattle.np_items.proofs.ReadingLemmas.{after}
 

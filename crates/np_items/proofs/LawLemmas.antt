@@ -5,12 +5,9 @@ use Rattle.std.proofs.lemmas.Slice.Eq.{bytes_eq-Decides}
 use Rattle.std.specs.Prelude.{is_ok}
 use Rattle.std.specs.Str.{bytes_eq}
 use Rattle.serde_json.specs.Data.{Data}
-use Rattle.np_json.specs.Members.{text_of}
-use Rattle.np_json.specs.Shapes.{◌>>=◌}
+use Rattle.np_json.specs.Prelude.{text_of, ◌>>=◌}
 use Rattle.np_json.specs.declared.field.Field.TheVariants.{Given}
-use Rattle.np_items.specs.Inputs.{input_values, is_list_kind, items_by, items_in, values_from}
-use Rattle.np_items.specs.Items.{each_item, item_of}
-use Rattle.np_items.specs.Readings.{Reading}
+use Rattle.np_items.specs.Prelude.{Reading, each_item, input_values, is_list_kind, item_of, items_by, items_in, values_from}
 use Rattle.np_items.specs.declared.item.Item.{Item}
 use Rattle.np_items.specs.declared.fault.ItemsFault.{ItemsFault}
 

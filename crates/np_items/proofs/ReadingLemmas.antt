@@ -1,6 +1,6 @@
 -- Readings of one list after another. For `all_values` and `each_item`.
 use Rattle.std.proofs.Common.{List, ◌++◌, Ok, Err}
-use Rattle.np_items.specs.Readings.{Reading}
+use Rattle.np_items.specs.Prelude.{Reading}
 
 -- what was read, and then what is read of the rest
 abbrev pub after : {A : Type 0} → List A → Reading (List A) → Reading (List A)

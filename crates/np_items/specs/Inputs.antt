@@ -4,10 +4,9 @@ use Rattle.std.specs.List.{ends_with}
 use Rattle.std.specs.Str.{bytes_eq, is_utf8}
 use Rattle.serde_json.specs.Data.{Data, Items, no_items, item}
 use Rattle.serde_json.specs.Read.{read}
-use Rattle.np_json.specs.Members.{text_of, list_of}
+use Rattle.np_json.specs.Prelude.{list_of, text_of, ◌>>=◌}
 use Rattle.np_json.specs.declared.field.Field.{Field}
 use Rattle.np_json.specs.declared.field.Field.TheVariants.{Missing, Wrong, Given}
-use Rattle.np_json.specs.Shapes.{◌>>=◌}
 use Rattle.np_items.specs.Readings.{Reading}
 use Rattle.np_items.specs.declared.fault.ItemsFault.TheVariants.{NotJson, NotAList}
 

@@ -1,10 +1,9 @@
 -- The items of inputs.
 use Rattle.std.specs.Prelude.{ℕ, ◌+◌, List, [], ◌∷◌, length, nat_le, if◌then◌else◌, Option, Some, None, Ok, Err, ⊤}
 use Rattle.serde_json.specs.Data.{Data}
-use Rattle.np_json.specs.Meta.{type_meta}
-use Rattle.np_json.specs.Shapes.{Read, ◌>>=◌, ◌>>◌}
-use Rattle.np_objects.specs.Objects.{object_of}
-use Rattle.np_policies.specs.Policies.{policy_of}
+use Rattle.np_json.specs.Prelude.{Read, type_meta, ◌>>=◌, ◌>>◌}
+use Rattle.np_objects.specs.Prelude.{object_of}
+use Rattle.np_policies.specs.Prelude.{policy_of}
 use Rattle.np_policies.specs.declared.policy.Policy.{Policy}
 use Rattle.np_items.specs.Inputs.{all_values, is_list_kind}
 use Rattle.np_items.specs.Readings.{Reading}

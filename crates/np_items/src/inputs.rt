@@ -2,7 +2,7 @@
 ghost use Rattle.std.specs.Prelude.{◌≡◌, ◌++◌, map, IfOk};
 ghost use Rattle.serde_json.specs.View.{view};
 ghost use Rattle.np_items.specs.Inputs as spec;
-ghost use Rattle.np_items.specs.Readings.{GivesAs};
+ghost use Rattle.np_items.specs.Prelude.{GivesAs};
 
 use crate::fault::ItemsFault;
 use crate::json::value_of;

@@ -2,8 +2,7 @@
 ghost use Rattle.std.specs.Prelude.{◌≡◌, length, map, All, IfOk};
 ghost use Rattle.serde_json.specs.View.{view};
 ghost use Rattle.np_items.specs.Items as spec;
-ghost use Rattle.np_items.specs.Readings.{Gives};
-ghost use Rattle.np_items.specs.WellFormed.{IsWellItem};
+ghost use Rattle.np_items.specs.Prelude.{Gives, IsWellItem};
 
 use crate::fault::ItemsFault;
 use crate::item::Item;

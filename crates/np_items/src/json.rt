@@ -1,7 +1,7 @@
 //! From the bytes of an input to its JSON value.
 ghost use Rattle.serde_json.specs.View.{view};
 ghost use Rattle.np_items.specs.Inputs as spec;
-ghost use Rattle.np_items.specs.Readings.{GivesAs};
+ghost use Rattle.np_items.specs.Prelude.{GivesAs};
 
 use crate::fault::ItemsFault;
 use serde_json::Value;

@@ -1,10 +1,9 @@
 //! What follows from the definitions of inputs and items.
 ghost use Rattle.std.specs.Prelude.{◌≡◌, ℕ, ◌+◌, List, [], ◌∷◌, ◌++◌, length, false, codes, Ok, Err};
 ghost use Rattle.serde_json.specs.Data.{Data};
-ghost use Rattle.np_json.specs.Members.{text_of};
+ghost use Rattle.np_json.specs.Prelude.{text_of};
 ghost use Rattle.np_json.specs.declared.field.Field.TheVariants.{Given};
-ghost use Rattle.np_items.specs.Inputs.{all_values, input_values, is_list_kind, items_in};
-ghost use Rattle.np_items.specs.Items.{each_item, item_of};
+ghost use Rattle.np_items.specs.Prelude.{all_values, each_item, input_values, is_list_kind, item_of, items_in};
 ghost use Rattle.np_items.specs.declared.item.Item.{Item};
 ghost use Rattle.np_items.specs.declared.fault.ItemsFault.{ItemsFault};
 

@@ -2,9 +2,9 @@
 ghost use Rattle.std.specs.Prelude.{◌≡◌, [], ◌∷◌, codes, map, IfOk};
 ghost use Rattle.serde_json.specs.Find.{as_array};
 ghost use Rattle.serde_json.specs.View.{view};
-ghost use Rattle.np_json.specs.Members.{field_by, list_of, text_of, unless_null};
+ghost use Rattle.np_json.specs.Prelude.{field_by, list_of, text_of, unless_null};
 ghost use Rattle.np_items.specs.Inputs as spec;
-ghost use Rattle.np_items.specs.Readings.{GivesAs};
+ghost use Rattle.np_items.specs.Prelude.{GivesAs};
 
 use crate::fault::ItemsFault;
 use np_base::{NoMemory, Seq};

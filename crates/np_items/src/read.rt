@@ -1,9 +1,7 @@
 //! From the bytes of inputs to their items.
 ghost use Rattle.std.specs.Prelude.{◌≤◌, length, map, All, IfOk, OnOk};
-ghost use Rattle.np_items.specs.Items.{items_of};
+ghost use Rattle.np_items.specs.Prelude.{Gives, IsWellItem, items_of};
 ghost use Rattle.np_items.specs.Items as spec;
-ghost use Rattle.np_items.specs.Readings.{Gives};
-ghost use Rattle.np_items.specs.WellFormed.{IsWellItem};
 
 use crate::fault::ItemsFault;
 use crate::inputs::all_values;

@@ -9,7 +9,7 @@ use Rattle.std.specs.String.{string_cmp}
 use Rattle.serde_json.proofs.Views.{Entry}
 use Rattle.serde_json.specs.Find.{as_str}
 use Rattle.serde_json.specs.View.{view, members_view}
-use Rattle.np_json.specs.Members.{pairs_of_members}
+use Rattle.np_json.specs.Prelude.{pairs_of_members}
 
 abbrev pub Pair : Type 0
 Pair = List ℕ × List ℕ

@@ -1,10 +1,8 @@
 -- What a reader answered, and what that says of the value. For crates above.
 use Rattle.std.proofs.Common.{ℕ, List, Bool, true, refl, ◌≡◌, Ok, Err, ◌^◌, ◌≤◌, arith, le-leb, lt-ltb, ◌&&◌}
 use Rattle.serde_json.specs.Data.{string, number, unsigned}
-use Rattle.np_model.specs.Words.{is_name}
-use Rattle.np_json.specs.Shapes.{Read, under, refuse_if}
-use Rattle.np_json.specs.Types.{NamespacedName, Step}
-use Rattle.np_json.specs.Scalars.{name, port}
+use Rattle.np_model.specs.Prelude.{is_name}
+use Rattle.np_json.specs.Prelude.{NamespacedName, Read, Step, name, port, refuse_if, under}
 
 -- what is read under a step was read
 pub under-output : {A : Type 0} (step : Step) (read : Read A) (output : A) → under step read ≡ Ok output → read ≡ Ok output

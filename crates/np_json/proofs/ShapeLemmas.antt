@@ -4,8 +4,7 @@ use Rattle.std.proofs.lemmas.Bool.{false≢true}
 use Rattle.std.proofs.lemmas.List.Elements.{All-head, All-tail}
 use Rattle.serde_json.specs.Data.{Data}
 use Rattle.serde_json.specs.View.{items_of}
-use Rattle.np_json.specs.Shapes.{Read, Gives, IsUnder, under, each_item}
-use Rattle.np_json.specs.Types.{Bad, FaultKind, Flaw, Item, NoMemory, ShapeFault, Step}
+use Rattle.np_json.specs.Prelude.{Bad, FaultKind, Flaw, Gives, IsUnder, Item, NoMemory, Read, ShapeFault, Step, each_item, under}
 
 same_flaw : (a b : Flaw) → a.path ≡ b.path → a.kind ≡ b.kind → a ≡ b
 same_flaw a b path kind =

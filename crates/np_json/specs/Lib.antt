@@ -1,10 +1,11 @@
-pub use Rattle.serde_json.specs.Data
-pub use Rattle.serde_json.specs.Find
-pub use Rattle.serde_json.specs.View
 pub mod Faults
 pub mod Members
 pub mod Meta
 pub mod Paths
+pub mod Prelude
 pub mod Scalars
 pub mod Shapes
 pub mod Types
+pub use Rattle.serde_json.specs.Data
+pub use Rattle.serde_json.specs.Find
+pub use Rattle.serde_json.specs.View

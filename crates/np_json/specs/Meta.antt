@@ -3,7 +3,7 @@ use Rattle.std.specs.Prelude.{ℕ, List, length, not, ◌==◌, if◌then◌else
 use Rattle.serde_json.specs.Data.{Data}
 use Rattle.np_json.specs.Scalars.{text, name}
 use Rattle.np_json.specs.Shapes.{Read, ◌>>=◌, ◌>>◌, must_be_object, optional, refuse_if, required}
-use Rattle.np_model.specs.Words.{is_name}
+use Rattle.np_model.specs.Prelude.{is_name}
 use Rattle.np_json.specs.Types.{BadName, NamespacedName}
 use Rattle.np_json.specs.declared.meta.TypeMeta.{TypeMeta}
 

@@ -3,11 +3,11 @@ use Rattle.std.specs.Prelude.{ℤ, ℕ, pos, negsuc, List, Bool, ◌&&◌, nat_l
 use Rattle.std.specs.List.{list_all}
 use Rattle.serde_json.specs.Data.{Data}
 use Rattle.serde_json.specs.Find.{as_str, as_bool}
-use Rattle.np_conns.specs.ConnsText.{proto_named}
+use Rattle.np_conns.specs.Prelude.{proto_named}
 use Rattle.np_conns.specs.declared.proto.Proto.{Proto}
 use Rattle.np_json.specs.Members.{as_whole, as_pairs}
 use Rattle.np_json.specs.Shapes.{Read, ◌>>=◌, or_refuse, passing, refuse}
-use Rattle.np_model.specs.Words.{is_word, is_name, is_label}
+use Rattle.np_model.specs.Prelude.{is_label, is_name, is_word}
 use Rattle.np_json.specs.Types.{BadField, BadName, BadPort, BadProtocol}
 
 -- a value of the type that is asked for, else BadField

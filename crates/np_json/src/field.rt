@@ -1,8 +1,7 @@
 //! What stands at a member of an object, by the type that it is to have.
 ghost use Rattle.std.specs.Prelude.{◌≡◌, option_map};
 ghost use Rattle.serde_json.specs.View.{view, items_view};
-ghost use Rattle.np_json.specs.Members.{member_of, field_map, as_field, as_scalar, plain};
-ghost use Rattle.np_json.specs.Members.{text_of, whole_of, flag_of, list_of, object_of, scalar_of};
+ghost use Rattle.np_json.specs.Members.{member_of, field_map, as_field, as_scalar, plain, text_of, whole_of, flag_of, list_of, object_of, scalar_of};
 
 use serde_json::Value;
 

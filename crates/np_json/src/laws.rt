@@ -3,9 +3,7 @@ ghost use Rattle.std.specs.Prelude.{◌≡◌, ◌↔◌, ◌⊎◌, ℕ, ◌^�
 ghost use Rattle.serde_json.specs.Data.{Data, null, number, unsigned, negative, float};
 ghost use Rattle.serde_json.specs.Find.{get};
 ghost use Rattle.serde_json.specs.View.{items_of};
-ghost use Rattle.np_json.specs.Members.{member_of, as_whole};
-ghost use Rattle.np_json.specs.Paths.{path_text};
-ghost use Rattle.np_json.specs.Shapes.{each_item, under};
+ghost use Rattle.np_json.specs.Prelude.{as_whole, each_item, member_of, path_text, under};
 ghost use Rattle.np_json.specs.declared.flaw.Flaw.{Flaw};
 ghost use Rattle.np_json.specs.declared.path.Step.{Step};
 ghost use Rattle.np_json.specs.declared.path.Step.TheVariants.{Field, Item};

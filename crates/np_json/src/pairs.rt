@@ -5,7 +5,7 @@ ghost use Rattle.std.specs.List.Sorted.{IsStrictlySortedBy};
 ghost use Rattle.std.specs.Map.{keys_of};
 ghost use Rattle.std.specs.Ordering.{nat_cmp};
 ghost use Rattle.serde_json.specs.View.{view, members_view};
-ghost use Rattle.np_json.specs.Members.{IfGiven, as_pairs, pairs_of, pairs_of_members};
+ghost use Rattle.np_json.specs.Prelude.{IfGiven, as_pairs, pairs_of, pairs_of_members};
 
 use crate::field::{Field, as_field, member};
 use np_base::{NoMemory, Seq, Text};

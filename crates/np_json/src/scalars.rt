@@ -2,7 +2,7 @@
 ghost use Rattle.std.specs.Prelude.{◌≡◌};
 ghost use Rattle.std.specs.List.{list_all};
 ghost use Rattle.serde_json.specs.View.{view};
-ghost use Rattle.np_model.specs.Words.{is_label};
+ghost use Rattle.np_model.specs.Prelude.{is_label};
 ghost use Rattle.np_json.specs.Scalars.{of_type, port_number};
 ghost use Rattle.np_json.specs.Shapes.{Gives};
 

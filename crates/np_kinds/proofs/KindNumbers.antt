@@ -4,12 +4,11 @@ use Rattle.std.proofs.lemmas.List.{length-map}
 use Rattle.std.proofs.lemmas.List.FromFn.{get_or-map-range_with_len, length-range_with_len}
 use Rattle.np_classes.proofs.Relations.{class_within, first_of, firsts_within, same_class}
 use Rattle.np_classes.specs.Classes.{class_of, firsts}
-use Rattle.np_kinds.specs.Types.{EstateLists, Pod}
+use Rattle.np_kinds.specs.Prelude.{EstateLists, IsWorkload, Pod, source_pod}
 use Rattle.np_fold.proofs.AlikeLemmas.{kinds-are}
 use Rattle.np_fold.proofs.WorkloadLemmas.{first-is, workloads-count}
-use Rattle.np_fold.specs.Workloads.{Folding, first_pod, folding_of, kinds_alike, members_of, workload_count}
+use Rattle.np_fold.specs.Prelude.{Folding, first_pod, folding_of, kinds_alike, members_of, workload_count}
 use Rattle.np_kinds.proofs.PairLemmas.{first_there, in_folding, in_workloads, pod_there, source-within}
-use Rattle.np_kinds.specs.Between.{IsWorkload, source_pod}
 use Rattle.std.specs.Prelude.{All}
 use Rattle.std.proofs.lemmas.List.Elements.{All-weaker}
 

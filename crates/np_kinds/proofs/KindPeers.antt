@@ -2,25 +2,20 @@
 use Rattle.std.proofs.Common.{◌≡◌, ℕ, List, [], ◌∷◌, ◌++◌, Bool, ◌&&◌, Option, Some, None, refl, sym, ap, ◌∙◌}
 use Rattle.std.specs.List.{AllByRecursion}
 use Rattle.np_base.proofs.Each.{All-parts}
-use Rattle.np_addr.specs.Addresses.{cidr_has}
-use Rattle.np_kinds.specs.Types.{Address, AdminPeer, AdminPort, Family, NetPeer, NetPort, PortSpot}
+use Rattle.np_addr.specs.Prelude.{cidr_has}
+use Rattle.np_kinds.specs.Prelude.{Address, AdminPeer, AdminPort, Family, NetPeer, NetPort, PortSpot}
 use Rattle.np_addr.specs.declared.cidr.Cidr.{Cidr}
-use Rattle.np_conns.specs.Conns.{same_proto}
-use Rattle.np_fold.specs.Alike.{is_in}
-use Rattle.np_fold.specs.Blocks.{cidrs_of_peer}
-use Rattle.np_fold.specs.Keys.{keys_of_admin_peer, keys_of_net_peer, keys_of_optional, keys_of_selector}
+use Rattle.np_conns.specs.Prelude.{same_proto}
+use Rattle.np_fold.specs.Prelude.{cidrs_of_peer, is_in, keys_of_admin_peer, keys_of_net_peer, keys_of_optional, keys_of_selector}
 use Rattle.np_fold.proofs.SelectorLemmas.{selector-agree}
-use Rattle.np_labels.specs.Labels.{value_of, AgreeOn}
+use Rattle.np_labels.specs.Prelude.{AgreeOn, value_of}
 use Rattle.np_labels.specs.declared.selector.Selector.{Selector}
 use Rattle.np_model.specs.declared.admin_policy.AdminPeer.TheVariants as admin
 use Rattle.np_model.specs.declared.admin_policy.AdminPort.TheVariants as admin_port
 use Rattle.np_model.specs.declared.network_policy.NetPeer.TheVariants as net
 use Rattle.np_model.specs.declared.network_policy.NetPort.TheVariants as net_port
 use Rattle.np_rules.proofs.BlockPeers.{by_blocks}
-use Rattle.np_rules.specs.BlockFamilies.{some_inside}
-use Rattle.np_rules.specs.model.Ends.{End, PodEnd, pod, address}
-use Rattle.np_rules.specs.model.Peers.{admin_peer_matches, net_peer_matches, pods_match}
-use Rattle.np_rules.specs.model.PortEntries.{admin_entry_matches, has_named, net_entry_matches}
+use Rattle.np_rules.specs.Prelude.{End, PodEnd, address, admin_entry_matches, admin_peer_matches, has_named, net_entry_matches, net_peer_matches, pod, pods_match, some_inside}
 
 -- two pods with equal namespaces and named ports
 pub record SamePod (p q : PodEnd) : Type 0 where

@@ -2,16 +2,12 @@
 use Rattle.std.proofs.Common.{◌≡◌, ℕ, List, ◌&&◌, ap, ◌∙◌}
 use Rattle.std.specs.List.{AllByRecursion, flat_map, list_any}
 use Rattle.np_base.proofs.Each.{All-weaker}
-use Rattle.np_kinds.specs.Types.{AdminPeer, AdminPort, Family, NetPeer, NetPort, NetRule, PortSpot}
-use Rattle.np_fold.specs.Blocks.{cidrs_of_peer, cidrs_of_rule}
-use Rattle.np_fold.specs.Keys.{keys_of_admin_peer, keys_of_admin_rule, keys_of_net_peer, keys_of_net_rule}
+use Rattle.np_kinds.specs.Prelude.{AdminPeer, AdminPort, Family, NetPeer, NetPort, NetRule, PortSpot}
+use Rattle.np_fold.specs.Prelude.{cidrs_of_peer, cidrs_of_rule, keys_of_admin_peer, keys_of_admin_rule, keys_of_net_peer, keys_of_net_rule}
 use Rattle.np_rules.proofs.EachItem.{All-both, All-each, All-flat, list_any-same, none_or_any-same}
 use Rattle.np_kinds.proofs.KindPeers.{AgreeAt, AgreeIn, SameEnd, admin_entry-same, admin_peer-same, net_entry-same, net_peer-same}
 use Rattle.np_model.specs.declared.admin_policy.AdminRule.{AdminRule}
-use Rattle.np_rules.specs.model.Ends.{Contact, End}
-use Rattle.np_rules.specs.model.Peers.{admin_peer_matches, net_peer_matches}
-use Rattle.np_rules.specs.model.PortEntries.{admin_entry_matches, net_entry_matches}
-use Rattle.np_rules.specs.model.Rules.{admin_rule_matches, net_rule_matches, none_or_any}
+use Rattle.np_rules.specs.Prelude.{Contact, End, admin_entry_matches, admin_peer_matches, admin_rule_matches, net_entry_matches, net_peer_matches, net_rule_matches, none_or_any}
 
 -- two contacts of one family, protocol and port, whose ends are the same but for labels and addresses
 pub record SameContact (one other : Contact) : Type 0 where

@@ -3,23 +3,18 @@ use Rattle.std.proofs.Common.{◌≡◌, List, [], ◌∷◌, ◌++◌, ◌&&◌
 use Rattle.std.specs.List.{AllByRecursion, enumerate_from, flat_map}
 use Rattle.std.specs.Str.{bytes_eq}
 use Rattle.np_base.proofs.Each.{All-weaker, All-parts, All-append, All-if}
-use Rattle.np_fold.specs.Blocks.{cidrs_of_admin_policy, cidrs_of_baseline, cidrs_of_base_policy, cidrs_of_rule}
-use Rattle.np_fold.specs.Keys.{keys_of_admin_policy, keys_of_admin_rule, keys_of_base_policy, keys_of_baseline, keys_of_net_direction, keys_of_net_policy, keys_of_net_rule, keys_of_selector, keys_of_subject}
+use Rattle.np_fold.specs.Prelude.{cidrs_of_admin_policy, cidrs_of_base_policy, cidrs_of_baseline, cidrs_of_rule, keys_of_admin_policy, keys_of_admin_rule, keys_of_base_policy, keys_of_baseline, keys_of_net_direction, keys_of_net_policy, keys_of_net_rule, keys_of_selector, keys_of_subject}
 use Rattle.np_fold.proofs.SelectorLemmas.{selector-agree}
 use Rattle.np_rules.proofs.EachItem.{All-flat, All-numbered, All-three}
 use Rattle.np_kinds.proofs.KindPeers.{AgreeAt, AgreeIn, SamePod}
 use Rattle.np_kinds.proofs.KindRules.{IsAlikeAt, SameContact, admin_rules-same, net_rule-same}
-use Rattle.np_labels.specs.Selectors.{meets_selector}
-use Rattle.np_labels.specs.Labels.{AgreeOn}
+use Rattle.np_labels.specs.Prelude.{AgreeOn, meets_selector}
 use Rattle.np_model.specs.declared.admin_policy.AdminPolicy.{AdminPolicy}
 use Rattle.np_model.specs.declared.admin_policy.BasePolicy.{BasePolicy}
 use Rattle.np_model.specs.declared.admin_policy.Subject.{Subject}
-use Rattle.np_kinds.specs.Types.{Direction, Egress, Ingress, NetRule}
+use Rattle.np_kinds.specs.Prelude.{Direction, Egress, Ingress, NetRule}
 use Rattle.np_model.specs.declared.network_policy.NetPolicy.{NetPolicy}
-use Rattle.np_rules.specs.model.Ends.{Contact, PodEnd}
-use Rattle.np_rules.specs.model.NetTier.{placed_net_matches}
-use Rattle.np_rules.specs.model.Places.{PlacedNetRule, admin_places, admin_places_of, admin_rules_of, base_places, base_rules_of, net_places, net_places_of, net_rules_of}
-use Rattle.np_rules.specs.model.Selection.{net_selects, subject_selects}
+use Rattle.np_rules.specs.Prelude.{Contact, PlacedNetRule, PodEnd, admin_places, admin_places_of, admin_rules_of, base_places, base_rules_of, net_places, net_places_of, net_rules_of, net_selects, placed_net_matches, subject_selects}
 
 -- ---- which policies select
 

@@ -2,32 +2,20 @@
 use Rattle.std.proofs.Common.{◌≡◌, ℕ, ◌+◌, List, ◌++◌, length, ◌&&◌, Option, Some, None, map, filter, is_some, refl, ap, subst, inl, inr, ◌∙◌, if◌then◌else◌}
 use Rattle.std.specs.List.{AllByRecursion, find, flat_map, list_any}
 use Rattle.std.proofs.lemmas.List.Elements.{recursion_from_All}
-use Rattle.np_labels.specs.Labels.{AgreeOn}
+use Rattle.np_labels.specs.Prelude.{AgreeOn}
 use Rattle.np_labels.proofs.Agreed.{All-from_listed}
 use Rattle.np_base.proofs.Each.{All-weaker, All-parts}
-use Rattle.np_kinds.specs.Types.{Direction, Egress, EstateLists, Family, Ingress, Pod, PortSpot}
+use Rattle.np_kinds.specs.Prelude.{AreOneKind, Direction, Egress, EstateLists, Family, Ingress, Pod, PortSpot}
 use Rattle.np_addr.specs.declared.address.Family.TheVariants.{Four}
 use Rattle.np_conns.specs.declared.proto.Proto.TheVariants.{Tcp}
-use Rattle.np_fold.specs.Alike.{IsSameKind}
-use Rattle.np_fold.specs.Blocks.{cidrs_of_admin_policy, cidrs_of_baseline, cidrs_of_estate}
-use Rattle.np_fold.specs.Keys.{keys_of_admin_policy, keys_of_baseline, keys_of_estate, keys_of_net_policy, keys_of_service}
-use Rattle.np_kinds.specs.Ends.{AreOneKind}
+use Rattle.np_fold.specs.Prelude.{IsSameKind, cidrs_of_admin_policy, cidrs_of_baseline, cidrs_of_estate, keys_of_admin_policy, keys_of_baseline, keys_of_estate, keys_of_net_policy, keys_of_service}
 use Rattle.np_rules.proofs.EachItem.{All-each, All-three, filter-same, find-same, list_any-same}
 use Rattle.np_kinds.proofs.KindPeers.{AgreeAt, AgreeIn, SameEnd, SamePod}
 use Rattle.np_kinds.proofs.KindRules.{SameContact}
 use Rattle.np_kinds.proofs.KindSides.{admin_places-alike, admin_places-same, base_places-alike, base_places-same, net_places-alike, net_places-same, net_selects-same}
 use Rattle.np_model.specs.declared.admin_policy.Action.{Action}
 use Rattle.np_model.specs.declared.admin_policy.Action.TheVariants.{Allow, Deny, Pass}
-use Rattle.np_rules.specs.model.AdminTier.{admin_decider, admin_precedes, least_by}
-use Rattle.np_rules.specs.model.BaseTier.{base_decider}
-use Rattle.np_rules.specs.Deciders.{action_decides, admin_decides, admin_rule_name, base_decides, decider, isolating_names, lower_decider, net_decider, net_decides, net_policy_name, net_precedes}
-use Rattle.np_rules.specs.model.Ends.{Contact, End, Packet, PodEnd, address, contact_of, pod, pod_end}
-use Rattle.np_rules.specs.model.NetTier.{is_isolated, isolates, permits, placed_net_matches}
-use Rattle.np_rules.specs.model.Places.{PlacedAdminRule, admin_places, base_places, end_rule_count, net_places, net_rules_of, rule_count}
-use Rattle.np_rules.specs.model.Rules.{admin_rule_matches}
-use Rattle.np_rules.specs.model.Selection.{net_selects}
-use Rattle.np_rules.specs.model.Sides.{admin_says, base_says, lower_allows, side_allows}
-use Rattle.np_rules.specs.model.Verdict.{allows, end_allows}
+use Rattle.np_rules.specs.Prelude.{Contact, End, Packet, PlacedAdminRule, PodEnd, action_decides, address, admin_decider, admin_decides, admin_places, admin_precedes, admin_rule_matches, admin_rule_name, admin_says, allows, base_decider, base_decides, base_places, base_says, contact_of, decider, end_allows, end_rule_count, is_isolated, isolates, isolating_names, least_by, lower_allows, lower_decider, net_decider, net_decides, net_places, net_policy_name, net_precedes, net_rules_of, net_selects, permits, placed_net_matches, pod, pod_end, rule_count, side_allows}
 use Rattle.np_rules.specs.declared.decider.Decider.{Decider}
 use Rattle.np_rules.specs.declared.decider.RuleName.{RuleName}
 

@@ -1,6 +1,5 @@
 -- The pods of workloads. For `first_place`, `first_pod` and crates above.
-use Rattle.std.proofs.Common.{◌≡◌, ◌≢◌, ◌<◌, ◌==◌, ◌&&◌, ℕ, List, [], ◌∷◌, Bool, true, false, Option, Some, None, Contains, length, slice_index_or, slice_get, get_or, if◌then◌else◌}
-use Rattle.std.proofs.Common.{arith, refl, sym, subst, ◌∙◌, ap, eq-eqb, inl, inr}
+use Rattle.std.proofs.Common.{◌≡◌, ◌≢◌, ◌<◌, ◌==◌, ◌&&◌, ℕ, List, [], ◌∷◌, Bool, true, false, Option, Some, None, Contains, length, slice_index_or, slice_get, get_or, if◌then◌else◌, arith, refl, sym, subst, ◌∙◌, ap, eq-eqb, inl, inr}
 use Rattle.std.specs.Option.{option_map_or}
 use Rattle.std.specs.Prelude.{IsSomeAnd}
 use Rattle.std.proofs.lemmas.Bool.{and_parts, eqb-true, false_from_ne_true}
@@ -8,12 +7,10 @@ use Rattle.std.proofs.lemmas.Bool.Decides.{eqb_tells}
 use Rattle.std.proofs.lemmas.List.Elements.{All-contains, Contains-get_or}
 use Rattle.std.proofs.lemmas.List.Folds.{Any-from_list_any, list_any_at}
 use Rattle.std.proofs.lemmas.Option.{slice_get-get_or}
-use Rattle.np_kinds.specs.Types.{EstateLists, Pod}
-use Rattle.np_fold.specs.Workloads.{Folding, Workload, folding_of, has_member, members_of, number_of, workloads_of}
+use Rattle.np_kinds.specs.Prelude.{EstateLists, Pod, destination_pod, is_alone, source_pod}
+use Rattle.np_fold.specs.Prelude.{Folding, Workload, folding_of, has_member, members_of, number_of, workloads_of}
 use Rattle.np_fold.proofs.WorkloadLemmas.{first-is, member-by_number, number-in_workloads, pods-within}
-use Rattle.np_rules.specs.model.Ends.{pod_end}
-use Rattle.np_rules.specs.model.Verdict.{no_pod}
-use Rattle.np_kinds.specs.Between.{destination_pod, is_alone, source_pod}
+use Rattle.np_rules.specs.Prelude.{no_pod, pod_end}
 
 -- ---- workloads have pods
 

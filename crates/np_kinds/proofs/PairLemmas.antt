@@ -3,20 +3,15 @@ use Rattle.std.proofs.Common.{◌≡◌, ◌≢◌, ◌<◌, ℕ, List, [], ◌�
 use Rattle.std.specs.Option.{option_map_or}
 use Rattle.std.specs.Prelude.{IsSomeAnd}
 use Rattle.np_base.proofs.Lists.{slice_get-some}
-use Rattle.np_kinds.specs.Types.{Direction, Egress, EstateLists, Family, Ingress, Pod, PortSpot}
+use Rattle.np_kinds.specs.Prelude.{AreOneKind, Direction, Egress, EstateLists, Family, Ingress, Pod, PortSpot, address_allows, address_of, between_pods, destination_pod, is_alone, pair_allows, source_pod, with_address}
 use Rattle.np_classes.specs.Classes.{class_of}
-use Rattle.np_model.specs.Lawful.{IsLawful}
+use Rattle.np_model.specs.Prelude.{IsLawful}
 use Rattle.np_fold.proofs.NamespaceLemmas.{labels_agree}
 use Rattle.np_fold.proofs.WorkloadLemmas.{first-is, number-in_workloads, one_kind, one_workload, workloads-count}
-use Rattle.np_fold.specs.Alike.{IsSameKind}
-use Rattle.np_fold.specs.Workloads.{Folding, first_pod, folding_of, kinds_alike, members_of, number_of, workload_count, workloads_of}
+use Rattle.np_fold.specs.Prelude.{Folding, IsSameKind, first_pod, folding_of, kinds_alike, members_of, number_of, workload_count, workloads_of}
 use Rattle.np_kinds.proofs.KindVerdicts.{SameKindEnd-ends, end_rule_count-same, packet-same}
-use Rattle.np_kinds.specs.Ends.{AreOneKind}
-use Rattle.np_rules.specs.model.Ends.{End, address, pod, pod_end}
-use Rattle.np_rules.specs.model.Places.{rule_count}
-use Rattle.np_rules.specs.model.Verdict.{no_pod, pod_at}
+use Rattle.np_rules.specs.Prelude.{End, address, no_pod, pod, pod_at, pod_end, rule_count}
 use Rattle.np_kinds.proofs.MemberLemmas.{destination-member, member-number, members-some, members-within, not-alone, own-member, source-member}
-use Rattle.np_kinds.specs.Between.{address_allows, address_of, between_pods, destination_pod, is_alone, pair_allows, source_pod, with_address}
 
 -- ---- pods of one kind
 

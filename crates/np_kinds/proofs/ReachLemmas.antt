@@ -3,17 +3,13 @@ use Rattle.std.proofs.Common.{◌≡◌, ℕ, zero, suc, List, [], Bool, true, f
 use Rattle.std.specs.Option.{option_map}
 use Rattle.std.proofs.lemmas.Bool.{and_left, and_right}
 use Rattle.std.proofs.lemmas.Option.{slice_get-map}
-use Rattle.np_kinds.specs.Types.{Direction, Egress, EstateLists, Family, Ingress, KindReach, PortSpot}
-use Rattle.np_model.specs.Lawful.{IsLawful}
-use Rattle.np_fold.specs.Workloads.{Folding, folding_of}
+use Rattle.np_kinds.specs.Prelude.{Direction, Egress, EstateLists, Family, Ingress, IsKindReach, IsReach, IsWorkload, KindReach, PortSpot, between_pods, first_end, is_alone, may_pass, pair_allows, side_allows_pod, source_pod}
+use Rattle.np_model.specs.Prelude.{IsLawful}
+use Rattle.np_fold.specs.Prelude.{Folding, folding_of}
 use Rattle.np_reach.proofs.MarkLemmas.{may_at-of}
 use Rattle.np_reach.proofs.ReachLemmas.{out_of_reach}
-use Rattle.np_reach.specs.Reach.{may_at, may_reach, reach_of}
-use Rattle.np_rules.specs.model.Ends.{PodEnd, pod}
-use Rattle.np_rules.specs.PodSides.{side_of, with_pod}
-use Rattle.np_rules.specs.model.Verdict.{allows}
-use Rattle.np_kinds.specs.Kinds.{IsKindReach, IsReach, first_end, may_pass, side_allows_pod}
-use Rattle.np_kinds.specs.Between.{IsWorkload, between_pods, is_alone, pair_allows, source_pod}
+use Rattle.np_reach.specs.Prelude.{may_at, may_reach, reach_of}
+use Rattle.np_rules.specs.Prelude.{PodEnd, allows, pod, side_of, with_pod}
 use Rattle.np_kinds.proofs.KindNumbers.{first-of_kind, kinds-by}
 use Rattle.np_kinds.proofs.PairLemmas.{pair_allows-alone, pair_allows-firsts}
 

@@ -1,18 +1,14 @@
 -- The side of the pod that stands for a workload's kind gives what that of the workload's own pod does. For crates above.
 use Rattle.std.proofs.Common.{get_or, ◌≡◌, ◌<◌, ℕ, List, false, Some, slice_get, slice_index, sym, ap, subst, ◌∙◌}
 use Rattle.std.proofs.lemmas.Option.{same_Some, slice_get-get_or, slice_get_within}
-use Rattle.np_kinds.specs.Types.{Direction, Egress, EstateLists, Family, Ingress, PortSpot}
+use Rattle.np_kinds.specs.Prelude.{Direction, Egress, EstateLists, Family, Ingress, IsWorkload, PortSpot, between_pods, first_alike, first_side, is_alone, kind_side, pair_allows, source_pod, with_address}
 use Rattle.np_classes.specs.Classes.{class_of}
-use Rattle.np_fold.specs.Workloads.{folding_of, kinds_alike, workload_count}
+use Rattle.np_fold.specs.Prelude.{folding_of, kinds_alike, workload_count}
 use Rattle.np_kinds.proofs.KindNumbers.{first-of_kind, kinds-by}
 use Rattle.np_kinds.proofs.KindVerdicts.{SameKindEnd-ends, end_rule_count-same}
 use Rattle.np_kinds.proofs.PairLemmas.{one_kind-sources, pair_allows-firsts, with_address-same}
-use Rattle.np_kinds.specs.Between.{IsWorkload, between_pods, is_alone, pair_allows, source_pod, with_address}
-use Rattle.np_kinds.specs.Kinds.{first_alike, first_side, kind_side}
-use Rattle.np_model.specs.Lawful.{IsLawful}
-use Rattle.np_rules.specs.PodSides.{near_pod, side_rule_count}
-use Rattle.np_rules.specs.model.Ends.{pod}
-use Rattle.np_rules.specs.model.Verdict.{pod_at}
+use Rattle.np_model.specs.Prelude.{IsLawful}
+use Rattle.np_rules.specs.Prelude.{near_pod, pod, pod_at, side_rule_count}
 
 index-of : (xs : List ℕ) (i x : ℕ) → slice_get xs i ≡ Some x → slice_index xs i ≡ x
 index-of xs i x is = sym (same_Some x (get_or xs i 0) (sym is ∙ slice_get-get_or xs i 0 (slice_get_within xs i x is)))

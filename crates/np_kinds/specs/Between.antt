@@ -3,9 +3,8 @@ use Rattle.std.specs.Prelude.{ℕ, ◌<◌, Bool, ◌&&◌, ◌==◌, not, lengt
 use Rattle.np_kinds.specs.Types.{Address, Direction, Egress, EstateLists, Family, Ingress, PortSpot}
 use Rattle.np_addr.specs.declared.address.Address.TheVariants as address
 use Rattle.np_addr.specs.declared.address.Family.TheVariants as family
-use Rattle.np_fold.specs.Workloads.{Folding, folding_of, members_of}
-use Rattle.np_rules.specs.model.Ends.{End, address, pod}
-use Rattle.np_rules.specs.model.Verdict.{allows, pod_at}
+use Rattle.np_fold.specs.Prelude.{Folding, folding_of, members_of}
+use Rattle.np_rules.specs.Prelude.{End, address, allows, pod, pod_at}
 
 -- ---- pairs of workloads
 

@@ -1,8 +1,8 @@
 -- Ends of packets that no rule tells apart.
 use Rattle.std.specs.Prelude.{◌≡◌, ◌⊎◌}
 use Rattle.np_kinds.specs.Types.{EstateLists, Pod}
-use Rattle.np_fold.specs.Alike.{IsSameKind}
-use Rattle.np_rules.specs.model.Ends.{End, pod, pod_end}
+use Rattle.np_fold.specs.Prelude.{IsSameKind}
+use Rattle.np_rules.specs.Prelude.{End, pod, pod_end}
 
 -- two ends are pods of one kind, in namespaces of the same labels
 pub record ArePodsOfOneKind (lists : EstateLists) (one other : End) : Type 0 where

@@ -2,13 +2,10 @@
 use Rattle.std.specs.Map.{lookup}
 use Rattle.std.specs.Prelude.{nat_eq, true, Option, is_some, ℕ, ◌≡◌, List, Bool, ◌&&◌, false, Some, map, slice_get, slice_index}
 use Rattle.np_kinds.specs.Types.{Direction, Egress, EstateLists, Family, Ingress, KindReach, PortSpot}
-use Rattle.np_fold.specs.Workloads.{folding_of}
+use Rattle.np_fold.specs.Prelude.{folding_of}
 use Rattle.np_kinds.specs.Between.{source_pod}
-use Rattle.np_reach.specs.Reach.{may_at}
-use Rattle.np_rules.specs.model.Ends.{Contact, PodEnd, pod}
-use Rattle.np_rules.specs.PodSides.{PodSide, near_pod, side_of, with_pod}
-use Rattle.np_rules.specs.model.Sides.{side_allows}
-use Rattle.np_rules.specs.model.Verdict.{pod_at}
+use Rattle.np_reach.specs.Prelude.{may_at}
+use Rattle.np_rules.specs.Prelude.{Contact, PodEnd, PodSide, near_pod, pod, pod_at, side_allows, side_of, with_pod}
 
 -- ---- sides
 

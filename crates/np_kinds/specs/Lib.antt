@@ -1,4 +1,5 @@
 pub mod Between
 pub mod Ends
 pub mod Kinds
+pub mod Prelude
 pub mod Types

@@ -1,10 +1,10 @@
 //! The first pods of workloads, which stand for these.
 ghost use Rattle.std.specs.Prelude.{◌≡◌, ◌<◌, IfOk, length};
-ghost use Rattle.np_fold.specs.Workloads.{folding_of};
-ghost use Rattle.np_kinds.specs.Between.{IsWorkload, source_pod};
+ghost use Rattle.np_fold.specs.Prelude.{folding_of};
+ghost use Rattle.np_kinds.specs.Prelude.{IsWorkload, source_pod};
 ghost use Rattle.np_kinds.specs.Kinds as spec;
-ghost use Rattle.np_model.specs.Lawful.{IsLawful};
-ghost use Rattle.np_rules.specs.model.Ends.{pod_end};
+ghost use Rattle.np_model.specs.Prelude.{IsLawful};
+ghost use Rattle.np_rules.specs.Prelude.{pod_end};
 
 use np_base::NoMemory;
 use np_fold::Folded;

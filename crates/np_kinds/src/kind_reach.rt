@@ -3,10 +3,10 @@ ghost use Rattle.std.specs.Prelude.{◌≡◌, IfOk, false, map, not, slice_inde
 ghost use Rattle.np_addr.specs.declared.address.Family.{Family};
 ghost use Rattle.np_conns.specs.declared.port_spot.PortSpot.{PortSpot};
 ghost use Rattle.np_model.specs.declared.lists.EstateLists.{EstateLists};
-ghost use Rattle.np_fold.specs.Workloads.{folding_of};
+ghost use Rattle.np_fold.specs.Prelude.{folding_of};
 ghost use Rattle.np_model.specs.declared.direction.Direction.TheVariants.{Egress, Ingress};
-ghost use Rattle.np_reach.specs.Reach.{reach_of};
-ghost use Rattle.np_rules.specs.model.Ends.{pod_end};
+ghost use Rattle.np_reach.specs.Prelude.{reach_of};
+ghost use Rattle.np_rules.specs.Prelude.{pod_end};
 ghost use Rattle.np_kinds.specs.Between.{IsWorkload, pair_allows};
 ghost use Rattle.np_kinds.specs.Kinds as spec;
 

@@ -3,13 +3,10 @@ ghost use Rattle.std.specs.Prelude.{◌≡◌};
 ghost use Rattle.np_addr.specs.declared.address.Family.{Family};
 ghost use Rattle.np_conns.specs.declared.port_spot.PortSpot.{PortSpot};
 ghost use Rattle.np_model.specs.declared.lists.EstateLists.{EstateLists};
-ghost use Rattle.np_kinds.specs.Ends.{AreOneKind};
+ghost use Rattle.np_kinds.specs.Prelude.{AreOneKind};
 ghost use Rattle.np_model.specs.declared.direction.Direction.{Direction};
 ghost use Rattle.np_model.specs.declared.direction.Direction.TheVariants.{Ingress, Egress};
-ghost use Rattle.np_rules.specs.Deciders.{decider};
-ghost use Rattle.np_rules.specs.model.Ends.{End, contact_of};
-ghost use Rattle.np_rules.specs.model.Places.{end_rule_count};
-ghost use Rattle.np_rules.specs.model.Verdict.{allows};
+ghost use Rattle.np_rules.specs.Prelude.{End, allows, contact_of, decider, end_rule_count};
 
 /// The verdict of a packet depends on the kinds of its ends alone: between ends of the same kinds, packets of one family,
 /// protocol and port are allowed or denied alike. An end may also be an address, or a pod that nobody has written yet.

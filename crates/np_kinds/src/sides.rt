@@ -1,9 +1,9 @@
 //! The rules of the pods that stand for kinds of workloads.
 ghost use Rattle.std.specs.Prelude.{◌≡◌, OnOk, is_some, slice_index, true};
-ghost use Rattle.np_fold.specs.Workloads.{folding_of};
+ghost use Rattle.np_fold.specs.Prelude.{folding_of};
 ghost use Rattle.np_kinds.specs.Between.{IsWorkload};
 ghost use Rattle.np_kinds.specs.Kinds.{AreKnown, KnowsMore, StayKnown, kind_side, known_at, knows};
-ghost use Rattle.np_model.specs.Lawful.{IsLawful};
+ghost use Rattle.np_model.specs.Prelude.{IsLawful};
 ghost use Rattle.np_model.specs.declared.direction.Direction.TheVariants.{Egress, Ingress};
 
 use crate::first_pods::first_side;

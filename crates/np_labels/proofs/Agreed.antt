@@ -4,7 +4,7 @@ use Rattle.std.specs.Cmp.Lexicographic.{bytes_decides}
 use Rattle.std.specs.List.{AllByRecursion}
 use Rattle.std.specs.Str.{bytes_eq}
 use Rattle.std.proofs.Math.Bool.{or-true}
-use Rattle.np_labels.specs.Selectors.{is_listed}
+use Rattle.np_labels.specs.Prelude.{is_listed}
 
 -- what is so of each listed key is so of all keys of the list
 pub All-from_listed : (P : List ℕ → Type 0) (keys : List (List ℕ)) → ((key : List ℕ) → is_listed keys key ≡ true → P key) → AllByRecursion P keys

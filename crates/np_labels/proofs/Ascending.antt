@@ -10,8 +10,7 @@ use Rattle.std.specs.Str.{bytes_eq}
 use Rattle.std.proofs.lemmas.Map.Keys.{sorted_head, sorted_tail}
 use Rattle.std.proofs.lemmas.Map.Text.{is_eq-slice_cmp}
 use Rattle.np_base.specs.Texts.{compare_texts}
-use Rattle.np_labels.specs.Labels.{value_of, keys_of, with_pair, labels_of, HasAscendingKeys}
-use Rattle.np_labels.specs.Types.{Pair}
+use Rattle.np_labels.specs.Prelude.{HasAscendingKeys, Pair, keys_of, labels_of, value_of, with_pair}
 
 -- a text is above one that is below it
 flipped : (high low : List ℕ) → compare_texts high low ≡ Greater → compare_texts low high ≡ Less

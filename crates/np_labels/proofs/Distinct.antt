@@ -13,9 +13,7 @@ use Rattle.std.proofs.Math.Bool.{or-false, or_comm}
 use Rattle.std.proofs.lemmas.Map.Text.{is_eq-slice_cmp}
 use Rattle.np_base.proofs.Lists.{some-more}
 use Rattle.np_base.proofs.Bools.{or-leftwards}
-use Rattle.np_labels.specs.DistinctAscends.{Less-from_test, distinct-ascends, list_all-insert_key}
-use Rattle.np_labels.specs.Selectors.{is_listed}
-use Rattle.np_labels.specs.Values.{is_below, is_ascending, distinct}
+use Rattle.np_labels.specs.Prelude.{Less-from_test, distinct, distinct-ascends, is_ascending, is_below, is_listed, list_all-insert_key}
 
 -- ---- which values
 

@@ -14,8 +14,7 @@ use Rattle.std.proofs.lemmas.Map.Text.{is_eq-slice_cmp}
 use Rattle.np_base.proofs.Orders.{texts-differ}
 use Rattle.np_base.specs.Texts.{compare_texts}
 use Rattle.np_labels.proofs.Distinct.{sorted-from_ascending}
-use Rattle.np_labels.specs.Selectors.{is_listed}
-use Rattle.np_labels.specs.Values.{is_ascending}
+use Rattle.np_labels.specs.Prelude.{is_ascending, is_listed}
 
 module _ (values : List (List ℕ)) (ascending : is_ascending values ≡ true) (value : List ℕ) where
   not_lower : IsSortedBy (λ a b. is_lt (compare_texts a b)) values

@@ -13,8 +13,7 @@ use Rattle.std.proofs.lemmas.Map.Text.{is_eq-slice_cmp}
 use Rattle.np_base.proofs.Orders.{texts-differ}
 use Rattle.np_base.specs.Texts.{compare_texts}
 use Rattle.np_labels.proofs.Ascending.{bytes_eq-below}
-use Rattle.np_labels.specs.Labels.{value_of, keys_of, HasAscendingKeys}
-use Rattle.np_labels.specs.Types.{Pair}
+use Rattle.np_labels.specs.Prelude.{HasAscendingKeys, Pair, keys_of, value_of}
 
 -- a text that is below all keys is below that of each pair
 below_at : (low : List ℕ) (pairs : List Pair) (i : ℕ) (d : Pair) → AllByRecursion (λ other. compare_texts low other ≡ Less) (keys_of pairs) → i < length pairs → compare_texts low (get_or pairs i d).key ≡ Less

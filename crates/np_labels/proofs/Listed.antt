@@ -5,7 +5,7 @@ use Rattle.std.specs.Cmp.Lexicographic.{slice_cmp, bytes_decides}
 use Rattle.std.specs.Str.{bytes_eq}
 use Rattle.std.proofs.lemmas.List.Folds.{list_any_more}
 use Rattle.std.proofs.lemmas.Map.Text.{is_eq-slice_cmp}
-use Rattle.np_labels.specs.Selectors.{is_listed}
+use Rattle.np_labels.specs.Prelude.{is_listed}
 
 -- one more listed value
 is_listed-more : (listed : List (List ℕ)) (i : ℕ) (item : List ℕ) → i < length listed → item ≡ get_or listed i item → (value : List ℕ) →

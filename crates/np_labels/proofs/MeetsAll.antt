@@ -9,10 +9,7 @@ use Rattle.std.proofs.lemmas.List.Folds.{list_all_more}
 use Rattle.std.proofs.Math.Bool.{and-true}
 use Rattle.std.proofs.lemmas.Bool.{and_from}
 use Rattle.std.proofs.lemmas.Map.Text.{is_eq-slice_cmp}
-use Rattle.np_labels.specs.Demands.{admits, admits_unless_free, allowed_at}
-use Rattle.np_labels.specs.Labels.{value_of}
-use Rattle.np_labels.specs.Selectors.{allows, meets_requirement}
-use Rattle.np_labels.specs.Types.{Demand, Pair, Requirement}
+use Rattle.np_labels.specs.Prelude.{Demand, Pair, Requirement, admits, admits_unless_free, allowed_at, allows, meets_requirement, value_of}
 
 -- whether labels meet all requirements
 abbrev pub meets_all : List Requirement → List Pair → Bool

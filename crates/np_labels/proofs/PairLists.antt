@@ -11,8 +11,7 @@ use Rattle.std.proofs.lemmas.List.{reverse-append}
 use Rattle.std.proofs.lemmas.List.Sums.{fold-append}
 use Rattle.std.proofs.lemmas.Map.Text.{is_eq-slice_cmp}
 use Rattle.np_base.proofs.Options.{option_or-none}
-use Rattle.np_labels.specs.Labels.{value_of, last_value_of, keys_of, with_pair, labels_of, pair_of}
-use Rattle.np_labels.specs.Types.{Pair}
+use Rattle.np_labels.specs.Prelude.{Pair, keys_of, labels_of, last_value_of, pair_of, value_of, with_pair}
 
 -- ---- a pair at the end
 

@@ -11,9 +11,7 @@ use Rattle.std.proofs.lemmas.Map.Text.{is_eq-slice_cmp}
 use Rattle.np_base.proofs.Options.{option_or-none}
 use Rattle.np_base.specs.Texts.{compare_texts}
 use Rattle.np_labels.proofs.PairLists.{value_of-push, keys_of-push}
-use Rattle.np_labels.specs.Demands.{admits, admits_unless_free}
-use Rattle.np_labels.specs.Labels.{value_of, keys_of}
-use Rattle.np_labels.specs.Types.{Demand, Pair}
+use Rattle.np_labels.specs.Prelude.{Demand, Pair, admits, admits_unless_free, keys_of, value_of}
 
 -- the demand on a key
 abbrev pub demand_at : List (List ℕ × Demand) → List ℕ → Option Demand

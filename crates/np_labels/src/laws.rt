@@ -3,9 +3,7 @@ ghost use Rattle.std.specs.Prelude.{◌≡◌, List, ℕ, [], true, not};
 ghost use Rattle.std.specs.Cmp.Lexicographic.{slice_cmp};
 ghost use Rattle.std.specs.List.Sorted.{IsStrictlySortedBy};
 ghost use Rattle.std.specs.Ordering.{nat_cmp};
-ghost use Rattle.np_labels.specs.Labels.{value_of, last_value_of, labels_of, HasAscendingKeys};
-ghost use Rattle.np_labels.specs.Selectors.{meets_requirement, meets_selector, negation_of};
-ghost use Rattle.np_labels.specs.WellFormed.{is_well_requirement};
+ghost use Rattle.np_labels.specs.Prelude.{HasAscendingKeys, is_well_requirement, labels_of, last_value_of, meets_requirement, meets_selector, negation_of, value_of};
 ghost use Rattle.np_labels.specs.declared.pair.Pair.{Pair};
 ghost use Rattle.np_labels.specs.declared.requirement.Requirement.{Requirement};
 

@@ -4,9 +4,7 @@ ghost use Rattle.std.specs.BTreeMap.{get, IsOrdered};
 ghost use Rattle.std.specs.Ordering.{nat_cmp};
 ghost use Rattle.std.specs.Cmp.Lexicographic.{slice_cmp};
 ghost use Rattle.std.specs.List.{list_all};
-ghost use Rattle.np_labels.specs.Demands.{admits, admits_unless_free, allowed_at};
-ghost use Rattle.np_labels.specs.Labels.{value_of};
-ghost use Rattle.np_labels.specs.Selectors.{allows, meets_requirement};
+ghost use Rattle.np_labels.specs.Prelude.{admits, admits_unless_free, allowed_at, allows, meets_requirement, value_of};
 ghost use Rattle.np_labels.specs.declared.pair.Pair.{Pair};
 
 use crate::choice::Choice;

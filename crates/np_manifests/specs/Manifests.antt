@@ -3,9 +3,9 @@
 use Rattle.std.specs.Prelude.{ℕ, List, [], ◌∷◌, ◌++◌, map, Bool, ◌==◌, if◌then◌else◌, is_some, Option, option_map, codes}
 use Rattle.serde_json.specs.Data.{Data, number, string, unsigned}
 use Rattle.np_written.specs.Values.{object_with, list_with}
-use Rattle.np_addr.specs.AddressText.{cidr_text}
+use Rattle.np_addr.specs.Prelude.{cidr_text}
 use Rattle.np_manifests.specs.Types.{Absent, Block, Cidr, Direction, Egress, Ingress, Named, NetPeer, NetPolicy, NetPort, NetRule, NoneOf, OneOf, Op, Pods, Present, Proto, Requirement, Selector, Span}
-use Rattle.np_conns.specs.ConnsText.{proto_name}
+use Rattle.np_conns.specs.Prelude.{proto_name}
 use Rattle.np_manifests.specs.Members.{if_given, if_some}
 
 -- ---- selectors

@@ -2,7 +2,7 @@
 ghost use Rattle.std.specs.Prelude.{◌≡◌, IfOk, map};
 ghost use Rattle.serde_json.specs.Data.{Data, string};
 ghost use Rattle.serde_json.specs.View.{view};
-ghost use Rattle.np_addr.specs.AddressText.{cidr_text};
+ghost use Rattle.np_addr.specs.Prelude.{cidr_text};
 
 use np_addr::{Cidr, print_cidr};
 use np_base::{NoMemory, Text};

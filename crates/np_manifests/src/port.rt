@@ -1,7 +1,7 @@
 //! Port entries (Kubernetes API reference, NetworkPolicyPort).
 ghost use Rattle.std.specs.Prelude.{◌≡◌, IfOk};
 ghost use Rattle.serde_json.specs.View.{view};
-ghost use Rattle.np_conns.specs.ConnsText.{proto_name};
+ghost use Rattle.np_conns.specs.Prelude.{proto_name};
 ghost use Rattle.np_manifests.specs.Manifests as manifests;
 
 use crate::manifest::Manifest;

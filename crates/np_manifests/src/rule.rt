@@ -2,7 +2,7 @@
 ghost use Rattle.std.specs.Prelude.{◌≡◌, IfOk, map};
 ghost use Rattle.serde_json.specs.View.{view};
 ghost use Rattle.np_manifests.specs.Manifests as manifests;
-ghost use Rattle.np_policies.specs.NetworkPolicies.{peers_member};
+ghost use Rattle.np_policies.specs.Prelude.{peers_member};
 
 use crate::manifest::each_value;
 use crate::members::put_some;

@@ -3,12 +3,9 @@ use Rattle.std.proofs.Common.{◌≡◌, ℕ, ◌≤◌, ◌==◌, Bool, true, f
 use Rattle.std.proofs.lemmas.Fmt.{decimal_is_IsNumeral}
 use Rattle.std.proofs.lemmas.List.Elements.{All-append, All-cons, All-nil}
 use Rattle.std.specs.Char.{digit_value}
-use Rattle.np_meaning.specs.Types.{Address, Cidr, Four, Six}
+use Rattle.np_meaning.specs.Prelude.{Address, Cidr, Four, Six}
 use Rattle.np_addr.specs.declared.cidr.Cidr.TheVariants as cidr
-use Rattle.np_addr.specs.Addresses.{IsAddress, IsCidr}
-use Rattle.np_addr.specs.AddressText.{address_text, cidr_text}
-use Rattle.np_addr.specs.Blocks.{base_of, bits_of}
-use Rattle.np_addr.specs.TextForms.{AreGroups, IsSide, IsAddressText}
+use Rattle.np_addr.specs.Prelude.{AreGroups, IsAddress, IsAddressText, IsCidr, IsSide, address_text, base_of, bits_of, cidr_text}
 use Rattle.np_addr.proofs.CanonicalLemmas.{address_of-address_text}
 use Rattle.np_addr.proofs.DottedLemmas.{dotted_others}
 use Rattle.np_addr.proofs.GrammarLemmas.{address_text_iff}

@@ -6,11 +6,9 @@ use Rattle.std.specs.Str.{bytes_eq}
 use Rattle.std.proofs.lemmas.Bool.{not-false}
 use Rattle.serde_json.specs.Data.{Data}
 use Rattle.serde_json.specs.Find.{as_str}
-use Rattle.np_json.specs.Members.{as_whole, member_of}
-use Rattle.np_json.specs.Scalars.{name, port, text, whole}
-use Rattle.np_json.specs.Shapes.{Read, ◌>>=◌, ◌>>◌, has_member, has_one_of, listed, must_be_object, or_refuse, refuse, refuse_if, refuse_member_if, required}
-use Rattle.np_model.specs.Words.{is_word}
-use Rattle.np_meaning.specs.Types.{Action, AdminPeer, AdminPolicy, AdminPort, AdminRule, AdminSpec, Allow, BadAction, BadField, BadPort, BadPriority, BaselineName, BasePolicy, Deny, DomainPeer, Egress, EmptyPeers, Ingress, NodePeer, Pass, PeerShape, Subject, AdminKind}
+use Rattle.np_json.specs.Prelude.{Read, as_whole, has_member, has_one_of, listed, member_of, must_be_object, name, or_refuse, port, refuse, refuse_if, refuse_member_if, required, text, whole, ◌>>=◌, ◌>>◌}
+use Rattle.np_model.specs.Prelude.{is_word}
+use Rattle.np_meaning.specs.Prelude.{Action, AdminKind, AdminPeer, AdminPolicy, AdminPort, AdminRule, AdminSpec, Allow, ArePodsBy, ArePodsOf, BadAction, BadField, BadPort, BadPriority, BasePolicy, BaselineName, Deny, DomainPeer, Egress, EmptyPeers, Ingress, IsAdminPolicyOf, IsAdminPort, IsAdminSpec, IsBasePolicyOf, IsEgressPeer, IsEgressRule, IsIngressPeer, IsIngressRule, IsPortBy, IsSpanOf, NodePeer, Pass, PeerShape, Subject, action_text, blocks_of, number_at, object_at, spec_of, text_at}
 use Rattle.np_model.specs.declared.admin_policy.AdminPort.TheVariants.{Named, Span}
 use Rattle.np_meaning.proofs.PolicyKinds.{admin-read, base-read}
 use Rattle.np_meaning.proofs.MemberReads.{object_at-output, found-output, required-some, AreEach-listed, number_at-output, name-output, port-whole, of_type-output, text_at-output}
@@ -18,16 +16,8 @@ use Rattle.np_meaning.proofs.PeersMeaning.{blocks_of-each_item, not_there}
 use Rattle.np_meaning.proofs.PortsMeaning.{protocol-output}
 use Rattle.np_policies.proofs.ReadLemmas.{bind-output, then-output, required-output, listed-output, or_refuse-output}
 use Rattle.np_policies.proofs.WellLemmas.{unbroken-output, unbroken_member-output}
-use Rattle.np_meaning.specs.AdminMeaning.{action_text, ArePodsBy, ArePodsOf, IsAdminPolicyOf, IsAdminPort, IsAdminSpec, IsBasePolicyOf, IsEgressPeer, IsEgressRule, IsIngressPeer, IsIngressRule, IsPortBy, IsSpanOf}
-use Rattle.np_policies.specs.AdminPolicies.{action, action_named, admin_peer, admin_peers, admin_policy, admin_rule, admin_rules, admin_spec, all_pods, base_name, base_policy, base_spec}
-use Rattle.np_policies.specs.AdminPolicies.{egress_member, egress_peer, ingress_peer, namespace_selector, networks, object_name, pods_member, priority, priority_number, some_pods, subject}
-use Rattle.np_policies.specs.Blocks.{cidr}
-use Rattle.np_policies.specs.Policies.{policy_of}
-use Rattle.np_meaning.specs.PolicyMeaning.{blocks_of, AreEach}
-use Rattle.np_policies.specs.Ports.{admin_port, admin_port_member, named_port, one_port, port_name, port_range, protocol}
-use Rattle.np_policies.specs.Items.{items_at}
-use Rattle.np_meaning.specs.MemberMeaning.{number_at, object_at, spec_of, text_at}
-use Rattle.np_policies.specs.Selectors.{everything, selector}
+use Rattle.np_policies.specs.Prelude.{action, action_named, admin_peer, admin_peers, admin_policy, admin_port, admin_port_member, admin_rule, admin_rules, admin_spec, all_pods, base_name, base_policy, base_spec, cidr, egress_member, egress_peer, everything, ingress_peer, items_at, named_port, namespace_selector, networks, object_name, one_port, pods_member, policy_of, port_name, port_range, priority, priority_number, protocol, selector, some_pods, subject}
+use Rattle.np_meaning.specs.PolicyMeaning.{AreEach}
 use Rattle.np_model.specs.declared.admin_policy.AdminPeer.TheVariants as peer
 use Rattle.np_policies.specs.declared.admin_rule_shape.AdminKind.TheVariants as tier
 use Rattle.np_policies.specs.declared.policy.Policy.TheVariants as policy

@@ -2,10 +2,10 @@
 use Rattle.std.proofs.Common.{◌≡◌, ◌↔◌, ◌-◌, ◌%◌, ◌^◌, true, ◌==◌, nat_le, arith}
 use Rattle.std.proofs.lemmas.Bool.{and_parts}
 use Rattle.std.proofs.lemmas.Bool.Decides.{nat_tests}
-use Rattle.np_addr.specs.Addresses.{IsCidr}
+use Rattle.np_addr.specs.Prelude.{IsCidr}
 use Rattle.np_addr.specs.declared.cidr.Cidr.TheVariants.{Four, Six}
-use Rattle.np_meaning.specs.Types.{Cidr}
-use Rattle.np_model.specs.WellPolicies.{is_well_cidr}
+use Rattle.np_meaning.specs.Prelude.{Cidr}
+use Rattle.np_model.specs.Prelude.{is_well_cidr}
 use Rattle.np_policies.proofs.WellLemmas.{cidr_test}
 
 from_test : (block : Cidr) → is_well_cidr block ≡ true → IsCidr block

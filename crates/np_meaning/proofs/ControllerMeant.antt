@@ -3,24 +3,14 @@ use Rattle.std.proofs.Common.{◌≡◌, ℕ, zero, suc, ℤ, pos, negsuc, List,
 use Rattle.std.proofs.lemmas.Bool.{ne_eqb}
 use Rattle.std.specs.Prelude.{IfOk, codes}
 use Rattle.serde_json.specs.Data.{Data, object, no_members}
-use Rattle.np_json.specs.Members.{as_whole, member_of}
-use Rattle.np_json.specs.Meta.{namespaced_name}
-use Rattle.np_json.specs.Scalars.{whole}
-use Rattle.np_json.specs.Shapes.{Read, must_be_object, optional, required, listed}
-use Rattle.np_meaning.specs.Types.{ControllerItem, ControllerKind, CronJob, DaemonSet, Deployment, Job, Pair, ReplicaSet, ReplicationController, StatefulSet, Template}
+use Rattle.np_json.specs.Prelude.{Read, as_whole, listed, member_of, must_be_object, namespaced_name, optional, required, whole}
+use Rattle.np_meaning.specs.Prelude.{AreLabelsOf, ControllerItem, ControllerKind, CronJob, DaemonSet, Deployment, IsControllerOf, IsTemplateIn, IsTemplateOf, Job, Pair, ReplicaSet, ReplicationController, StatefulSet, Template, has_replicas, is_nought, metadata_of, number_at, object_at, spec_of, template_in}
 use Rattle.np_meaning.proofs.MetaMeant.{IsOwn, labels-meant, namespaced_name-meant}
 use Rattle.np_meaning.proofs.Outputs.{OutputOf, IsOptional, optional-output}
 use Rattle.np_meaning.proofs.PodMeant.{pod_spec-meant}
-use Rattle.np_meaning.specs.ControllerMeaning.{has_replicas, is_nought, template_in, IsControllerOf, IsTemplateIn, IsTemplateOf}
-use Rattle.np_meaning.specs.ObjectMeaning.{metadata_of, AreLabelsOf}
-use Rattle.np_objects.specs.Controllers.{controller, controller_metadata, controller_spec, cron_job_spec, is_zero, job_template, no_spec, replicated_spec, template_spec}
-use Rattle.np_objects.specs.Labels.{label_map}
-use Rattle.np_objects.specs.Owners.{owner_reference}
-use Rattle.np_objects.specs.PodSpecs.{pod_spec}
-use Rattle.np_objects.specs.Templates.{template, template_metadata}
+use Rattle.np_objects.specs.Prelude.{controller, controller_metadata, controller_spec, cron_job_spec, is_zero, job_template, label_map, no_spec, owner_reference, pod_spec, replicated_spec, template, template_metadata, template_spec}
 use Rattle.np_policies.proofs.ReadLemmas.{bind-output, then-output}
 use Rattle.np_meaning.proofs.MemberReads.{of_type-output, object_at-output}
-use Rattle.np_meaning.specs.MemberMeaning.{number_at, object_at, spec_of}
 
 -- what the metadata and the spec of a controller are read as
 abbrev Metadata : Type 0

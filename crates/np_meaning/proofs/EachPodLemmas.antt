@@ -1,6 +1,5 @@
 -- The pods of an estate are those of the items that were read. For `each_pod_stands_once`.
-use Rattle.std.proofs.Common.{◌≡◌, ◌≢◌, ℕ, zero, suc, ◌+◌, ◌≤◌, List, [], ◌∷◌, ◌++◌, length, reverse, get_or, nat_lt, Bool, true, false, cond, not, ◌&&◌, ◌||◌, is_some, Option, Some, None, Ok, refl}
-use Rattle.std.proofs.Common.{sym, ap, subst, ◌∙◌, arith, add-zero, zero-add}
+use Rattle.std.proofs.Common.{◌≡◌, ◌≢◌, ℕ, zero, suc, ◌+◌, ◌≤◌, List, [], ◌∷◌, ◌++◌, length, reverse, get_or, nat_lt, Bool, true, false, cond, not, ◌&&◌, ◌||◌, is_some, Option, Some, None, Ok, refl, sym, ap, subst, ◌∙◌, arith, add-zero, zero-add}
 use Rattle.std.specs.Prelude.{codes, filter, find, option_to_list}
 use Rattle.std.specs.List.{cons_option, filter_map, position, position_or_len, slice_get}
 use Rattle.std.specs.Option.{option_and_then, option_flatten, option_map, option_map_or, option_or}
@@ -11,24 +10,19 @@ use Rattle.std.proofs.lemmas.List.{reverse-append}
 use Rattle.std.proofs.lemmas.List.Folds.{find_at}
 use Rattle.std.proofs.lemmas.List.Quantifiers.{position-Some}
 use Rattle.std.proofs.lemmas.Option.{option_and_then_some, slice_get-get_or, slice_get-map, slice_get_past}
-use Rattle.np_owners.specs.Chains.{chain, last_of, top, up}
+use Rattle.np_owners.specs.Prelude.{by_name, by_reference, chain, controller_place, is_named, last_of, last_owner, makes_pod, name_of, owner_of, owner_place, place_in_namespace, place_of, same_name, top, top_owner, up, ups}
 use Rattle.np_reading.proofs.LawfulNamespaces.{value_of-namespace_labels, HasNamespaceLabels}
 use Rattle.np_reading.proofs.LawfulReading.{pods_have_namespace_labels}
 use Rattle.np_reading.proofs.ReadingLemmas.{estate_of-passed}
-use Rattle.np_meaning.specs.EachPod.{namespace_named, pod, takes_part, templated, templates_from, AreEach, HoldsEachPod, IsListedPod, IsMadePod, SaysNamespace}
-use Rattle.np_reading.specs.Ends.{end_of, is_on_host, made_pod, pod_at_item, pods_from, pods_of, context, context_of}
-use Rattle.np_reading.specs.Namespaces.{labels_in, listed_labels, name_label, namespace_labels, namespace_name}
-use Rattle.np_reading.specs.Reading.{estate_of}
-use Rattle.np_meaning.specs.Types.{ControllerItem, ControllerKind, CronJob, DaemonSet, Deployment, EstateLists, Item, Job, NamespaceItem, ObjectName, OwnerRef, Pair, Pod, PodItem, ReplicaSet, ReplicationController, StatefulSet, Template}
-use Rattle.np_items.specs.Items.{items_of}
+use Rattle.np_meaning.specs.EachPod.{AreEach}
+use Rattle.np_meaning.specs.Prelude.{ControllerItem, ControllerKind, CronJob, DaemonSet, Deployment, EstateLists, HoldsEachPod, IsListedPod, IsMadePod, Item, Job, NamespaceItem, ObjectName, OwnerRef, Pair, Pod, PodItem, ReplicaSet, ReplicationController, SaysNamespace, StatefulSet, Template, namespace_named, pod, takes_part, templated, templates_from}
+use Rattle.np_reading.specs.Prelude.{context, context_of, end_of, estate_of, is_on_host, labels_in, listed_labels, made_pod, name_label, namespace_labels, namespace_name, pod_at_item, pods_from, pods_of}
+use Rattle.np_items.specs.Prelude.{items_of}
 use Rattle.np_items.specs.declared.item.Item.TheVariants as item
 use Rattle.np_labels.proofs.PairLists.{value_of-labels_of}
-use Rattle.np_labels.specs.Labels.{last_value_of, value_of}
-use Rattle.np_objects.specs.ControllerKinds.{is_controller_kind, kind_name}
+use Rattle.np_labels.specs.Prelude.{last_value_of, value_of}
+use Rattle.np_objects.specs.Prelude.{is_controller_kind, kind_name}
 use Rattle.np_objects.specs.declared.object.Object.TheVariants as object
-use Rattle.np_owners.specs.MadePods.{makes_pod}
-use Rattle.np_owners.specs.Names.{is_named, name_of, place_of, same_name}
-use Rattle.np_owners.specs.Owners.{by_name, by_reference, controller_place, last_owner, owner_of, owner_place, place_in_namespace, top_owner, ups}
 use Rattle.np_model.specs.declared.owner.Owner.{Owner}
 use Rattle.np_policies.specs.declared.policy.Policy.TheVariants as policy
 

@@ -3,19 +3,18 @@ use Rattle.std.proofs.Common.{◌≡◌, ℕ, ◌<◌, ◌==◌, Bool, true, fal
 use Rattle.std.specs.List.{join_by, list_any}
 use Rattle.std.proofs.lemmas.Bool.{or_parts, true≢false}
 use Rattle.std.proofs.lemmas.List.Elements.{All-append, All-cons, All-head, All-nil, All-tail}
-use Rattle.np_meaning.specs.Types.{AddressSpan, Cidr, Controller, EstateLists, Family, One, Pod, Range, Report, RowEnd, Span, Two, Work}
+use Rattle.np_meaning.specs.Prelude.{AddressSpan, Cidr, Controller, EstateLists, Family, IsEndOf, IsRangeOf, IsSpan, One, Pod, Range, Report, RowEnd, Span, Two, Work}
 use Rattle.np_addr.specs.declared.address.Family.TheVariants as family
-use Rattle.np_addr.specs.AddressText.{address_text, cidr_text}
+use Rattle.np_addr.specs.Prelude.{address_text, cidr_text}
 use Rattle.np_addr.proofs.PieceLemmas.{IsOther}
-use Rattle.np_fold.specs.Workloads.{folding_of, owner_name}
-use Rattle.np_meaning.specs.EstateRows.{IsEndOf, IsRangeOf, IsSpan}
-use Rattle.np_report.specs.RowText.{blocks_of, end_text, ends_text, names_of, span_text}
-use Rattle.np_kinds.specs.Between.{address_of}
+use Rattle.np_fold.specs.Prelude.{folding_of, owner_name}
+use Rattle.np_report.specs.Prelude.{blocks_of, end_text, ends_text, names_of, span_text}
+use Rattle.np_kinds.specs.Prelude.{address_of}
 use Rattle.np_table.specs.declared.rows.AddressSpan.TheVariants as span
 use Rattle.np_meaning.proofs.AddressBytes.{IsForeign, address-lacks, block-lacks}
 use Rattle.np_meaning.proofs.NameTexts.{name-within, names-all, one-name}
 use Rattle.np_meaning.proofs.SpanTexts.{blocks-plain, high-fits, low-fits, one-span}
-use Rattle.np_model.specs.Lawful.{IsFew}
+use Rattle.np_model.specs.Prelude.{IsFew}
 
 -- ---- texts with a byte
 

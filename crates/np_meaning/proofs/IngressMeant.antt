@@ -3,20 +3,15 @@ use Rattle.std.proofs.Common.{◌≡◌, List, [], ◌∷◌, ◌++◌, map, Boo
 use Rattle.std.specs.Prelude.{option_to_list}
 use Rattle.std.specs.List.{flat_map}
 use Rattle.serde_json.specs.Data.{Data, object, no_members}
-use Rattle.np_json.specs.Members.{member_of, text_of, whole_of}
-use Rattle.np_json.specs.Meta.{namespaced_name}
-use Rattle.np_json.specs.Scalars.{port, text}
-use Rattle.np_json.specs.Shapes.{has_one_of, listed, must_be_object, optional, refuse_if, required}
-use Rattle.np_meaning.specs.Types.{Backend, BadField, IngressItem, Named, Number, PortName, Resource, Service}
+use Rattle.np_json.specs.Prelude.{has_one_of, listed, member_of, must_be_object, namespaced_name, optional, port, refuse_if, required, text, text_of, whole_of}
+use Rattle.np_meaning.specs.Prelude.{Backend, BadField, IngressItem, IsBackend, IsBackendPort, IsIngressOf, Named, Number, PortName, Resource, Service, backends_in, list_at, object_at, text_at}
 use Rattle.np_meaning.proofs.MetaMeant.{namespaced_name-meant}
 use Rattle.np_meaning.proofs.Outputs.{optional-output, each-output, number_at-required, IsOptional, text-output}
 use Rattle.np_meaning.proofs.MemberReads.{text_at-output, object_at-output}
 use Rattle.np_policies.proofs.ReadLemmas.{bind-output, then-output}
 use Rattle.np_meaning.proofs.PodMeant.{AreEach-append, AreEach-flat_map}
-use Rattle.np_objects.specs.Ingresses.{backend, backend_port, backend_service, http, ingress, ingress_item, ingress_spec, is_named, is_numbered, is_one, number_or_name, path, rule}
+use Rattle.np_objects.specs.Prelude.{backend, backend_port, backend_service, http, ingress, ingress_item, ingress_spec, is_named, is_numbered, is_one, number_or_name, path, rule}
 use Rattle.np_meaning.specs.EachPod.{AreEach}
-use Rattle.np_meaning.specs.ObjectMeaning.{backends_in, list_at, IsBackend, IsBackendPort, IsIngressOf}
-use Rattle.np_meaning.specs.MemberMeaning.{text_at, object_at}
 
 -- ---- backends
 

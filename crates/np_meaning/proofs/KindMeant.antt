@@ -5,23 +5,13 @@ use Rattle.std.specs.Cmp.Lexicographic.{bytes_decides}
 use Rattle.std.specs.Map.{lookup}
 use Rattle.std.specs.Str.{bytes_eq}
 use Rattle.serde_json.specs.Data.{Data}
-use Rattle.np_json.specs.Meta.{type_meta}
-use Rattle.np_json.specs.Scalars.{text}
-use Rattle.np_json.specs.Shapes.{Read, ◌>>=◌, must_be_object, required}
+use Rattle.np_json.specs.Prelude.{Read, must_be_object, required, text, type_meta, ◌>>=◌}
 use Rattle.np_json.specs.declared.meta.TypeMeta.{TypeMeta}
 use Rattle.np_meaning.proofs.ControllerMeant.{controller-meant}
 use Rattle.np_meaning.proofs.Outputs.{text-output}
 use Rattle.np_meaning.proofs.MemberReads.{text_at-output}
-use Rattle.np_meaning.specs.KindMeaning.{version_of, IsOfItsKind}
-use Rattle.np_meaning.specs.MemberMeaning.{IsOfKind}
-use Rattle.np_objects.specs.ControllerKinds.{kind_name}
-use Rattle.np_objects.specs.Controllers.{controller}
-use Rattle.np_objects.specs.Ingresses.{ingress}
-use Rattle.np_objects.specs.Namespaces.{namespace}
-use Rattle.np_objects.specs.Objects.{kinds_of, object_by, object_of}
-use Rattle.np_objects.specs.Pods.{pod}
-use Rattle.np_objects.specs.Services.{service}
-use Rattle.np_meaning.specs.Types.{ControllerItem, ControllerKind, CronJob, DaemonSet, Deployment, Job, Object, ReplicaSet, ReplicationController, StatefulSet}
+use Rattle.np_meaning.specs.Prelude.{ControllerItem, ControllerKind, CronJob, DaemonSet, Deployment, IsOfItsKind, IsOfKind, Job, Object, ReplicaSet, ReplicationController, StatefulSet, version_of}
+use Rattle.np_objects.specs.Prelude.{controller, ingress, kind_name, kinds_of, namespace, object_by, object_of, pod, service}
 use Rattle.np_objects.specs.declared.object.Object.TheVariants as object
 use Rattle.np_policies.proofs.ReadLemmas.{bind-output, then-output}
 

@@ -3,16 +3,12 @@ use Rattle.std.proofs.Common.{◌≡◌, ℕ, ℤ, pos, negsuc, ◌+◌, List, [
 use Rattle.std.specs.List.{list_any}
 use Rattle.serde_json.specs.Data.{Data, Items, no_items, item}
 use Rattle.serde_json.specs.Find.{as_str}
-use Rattle.np_json.specs.Members.{as_whole, member_of}
-use Rattle.np_json.specs.Scalars.{name, of_type, port, port_number, text, whole, word}
-use Rattle.np_json.specs.Shapes.{Read, ◌>>◌, each_item, listed, refuse, refuse_if, required}
-use Rattle.np_model.specs.Words.{is_name, is_word}
-use Rattle.np_meaning.specs.MemberMeaning.{number_at, object_at, text_at}
-use Rattle.np_meaning.specs.Types.{BadField, BadName, BadPort}
+use Rattle.np_json.specs.Prelude.{Read, as_whole, each_item, listed, member_of, name, of_type, port, port_number, refuse, refuse_if, required, text, whole, word, ◌>>◌}
+use Rattle.np_model.specs.Prelude.{is_name, is_word}
+use Rattle.np_meaning.specs.Prelude.{BadField, BadName, BadPort, IsReadOf, any_item, number_at, object_at, text_at}
 use Rattle.np_policies.proofs.ReadLemmas.{bind-output, then-output, required-output, listed-output, each_item-output, or_refuse-output}
-use Rattle.np_meaning.specs.PolicyMeaning.{AreEach, IsReadOf}
-use Rattle.np_meaning.specs.SelectorMeaning.{any_item}
-use Rattle.np_policies.specs.Items.{items_at}
+use Rattle.np_meaning.specs.PolicyMeaning.{AreEach}
+use Rattle.np_policies.specs.Prelude.{items_at}
 
 -- a value of its type
 pub of_type-output : {A : Type 0} (found : Option A) (output : A) → of_type found ≡ Ok output → found ≡ Some output

@@ -6,21 +6,17 @@ use Rattle.std.proofs.lemmas.Bool.Decides.{nat_tests}
 use Rattle.std.proofs.lemmas.List.{reverse-append}
 use Rattle.serde_json.specs.Data.{Data, object, Members, no_members, member}
 use Rattle.serde_json.specs.Find.{as_object, as_str}
-use Rattle.np_json.specs.Members.{as_pairs, member_of, pairs_of_members}
+use Rattle.np_json.specs.Prelude.{as_pairs, labels, member_of, must_be_object, name, of_type, optional, pairs_of_members, refuse_if, required, text, ◌>>◌}
 use Rattle.np_json.specs.Meta as meta
-use Rattle.np_model.specs.Words.{is_label, is_name}
-use Rattle.np_json.specs.Scalars.{labels, name, of_type, text}
-use Rattle.np_json.specs.Shapes.{◌>>◌, must_be_object, optional, refuse_if, required}
-use Rattle.np_meaning.specs.Types.{BadField, BadName, Pair}
+use Rattle.np_model.specs.Prelude.{is_label, is_name}
+use Rattle.np_meaning.specs.Prelude.{AreLabelsOf, BadField, BadName, Pair, last_text, named_or_default, text_at}
 use Rattle.np_json.specs.declared.meta.NamespacedName.{NamespacedName}
 use Rattle.np_labels.proofs.PairLists.{value_of-labels_of}
-use Rattle.np_labels.specs.Labels.{labels_of, value_of, pair_of}
+use Rattle.np_labels.specs.Prelude.{labels_of, pair_of, value_of}
 use Rattle.np_meaning.proofs.Outputs.{optional-output, IsOptional, text-output}
 use Rattle.np_meaning.proofs.MemberReads.{text_at-output, of_type-output, name-output}
 use Rattle.np_policies.proofs.ReadLemmas.{bind-output, then-output}
-use Rattle.np_objects.specs.Labels.{label_map}
-use Rattle.np_meaning.specs.ObjectMeaning.{last_text, AreLabelsOf}
-use Rattle.np_meaning.specs.MemberMeaning.{text_at, named_or_default}
+use Rattle.np_objects.specs.Prelude.{label_map}
 
 -- ---- names
 

@@ -11,11 +11,11 @@ use Rattle.std.proofs.lemmas.Map.Keys.{Less-from_sorted}
 use Rattle.np_base.proofs.Lists.{slice_get-some}
 use Rattle.np_base.proofs.Orders.{not-before}
 use Rattle.np_classes.proofs.Relations.{firsts-le-count, firsts_within}
-use Rattle.np_fold.specs.Workloads.{Workload, first_pods, folding_of, named_first_pods, owner_name, owner_name_at, owner_names, pods_alike, workload, workload_count, workloads_of}
+use Rattle.np_fold.specs.Prelude.{Workload, first_pods, folding_of, named_first_pods, owner_name, owner_name_at, owner_names, pods_alike, workload, workload_count, workloads_of}
 use Rattle.np_fold.proofs.WorkloadLemmas.{workloads-by_name}
-use Rattle.np_report.specs.RowText.{names_of}
-use Rattle.np_model.specs.Lawful.{IsFew}
-use Rattle.np_meaning.specs.Types.{EstateLists, Pod}
+use Rattle.np_report.specs.Prelude.{names_of}
+use Rattle.np_model.specs.Prelude.{IsFew}
+use Rattle.np_meaning.specs.Prelude.{EstateLists, Pod}
 use Rattle.np_names.specs.Names.{name_at, suffix, wish_at}
 use Rattle.np_names.specs.declared.named.Named.{Named}
 use Rattle.np_names.proofs.ThingLemmas.{All-all_by_name, IsThing}

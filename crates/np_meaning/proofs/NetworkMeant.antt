@@ -2,22 +2,16 @@
 use Rattle.std.proofs.Common.{◌≡◌, List, Option, Some, None, unwrap_or, codes, Ok, subst}
 use Rattle.std.specs.Prelude.{IfSome}
 use Rattle.serde_json.specs.Data.{Data}
-use Rattle.np_json.specs.Meta.{namespace, namespaced_name}
-use Rattle.np_json.specs.Scalars.{name}
-use Rattle.np_json.specs.Shapes.{listed, must_be_object, optional, required}
-use Rattle.np_model.specs.Words.{direction_text}
-use Rattle.np_meaning.specs.Types.{Direction, Egress, Ingress, NetPolicy, NetRule}
+use Rattle.np_json.specs.Prelude.{listed, must_be_object, name, namespace, namespaced_name, optional, required}
+use Rattle.np_model.specs.Prelude.{direction_text}
+use Rattle.np_meaning.specs.Prelude.{Direction, Egress, Ingress, IsNetPolicyOf, IsNetRule, NetPolicy, NetRule, object_at, spec_of}
 use Rattle.np_meaning.proofs.MetaMeant.{namespaced_name-meant, IsOwn}
 use Rattle.np_meaning.proofs.PolicyKinds.{net-read}
 use Rattle.np_meaning.proofs.MemberReads.{object_at-output, AreEach-listed}
 use Rattle.np_policies.proofs.ReadLemmas.{bind-output, then-output}
 use Rattle.np_meaning.proofs.TypesMeaning.{types-meant}
-use Rattle.np_policies.specs.NetworkPolicies.{empty_spec, net_peer, net_policy, net_policy_by, net_rule, net_rules, net_spec, peers_member}
-use Rattle.np_policies.specs.Policies.{policy_of}
-use Rattle.np_meaning.specs.PolicyMeaning.{AreEach, IsNetPolicyOf, IsNetRule}
-use Rattle.np_policies.specs.Ports.{net_port}
-use Rattle.np_policies.specs.Items.{items_at}
-use Rattle.np_meaning.specs.MemberMeaning.{object_at, spec_of}
+use Rattle.np_policies.specs.Prelude.{empty_spec, items_at, net_peer, net_policy, net_policy_by, net_port, net_rule, net_rules, net_spec, peers_member, policy_of}
+use Rattle.np_meaning.specs.PolicyMeaning.{AreEach}
 use Rattle.np_policies.specs.declared.policy.Policy.TheVariants as policy
 
 -- ---- rules

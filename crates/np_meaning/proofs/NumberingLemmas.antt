@@ -5,7 +5,7 @@ use Rattle.std.specs.List.{range_with_len}
 use Rattle.std.specs.Str.{bytes_eq}
 use Rattle.std.specs.Cmp.Lexicographic.{bytes_decides}
 use Rattle.std.proofs.lemmas.Bool.{false≢true, eqb-true, eqb-false, ltb-false, ltb-true, ne_eqb}
-use Rattle.np_meaning.specs.Numbering.{AreNumbered}
+use Rattle.np_meaning.specs.Prelude.{AreNumbered}
 use Rattle.np_names.proofs.CountLemmas.{number_among, number-among-namesakes}
 use Rattle.np_names.specs.Names.{name_at, namesakes, suffix, wish_at}
 

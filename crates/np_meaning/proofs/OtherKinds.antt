@@ -4,14 +4,11 @@ use Rattle.std.specs.Cmp.Lexicographic.{bytes_decides}
 use Rattle.std.specs.Str.{bytes_eq}
 use Rattle.std.proofs.Math.Bool.{and-false}
 use Rattle.serde_json.specs.Data.{Data}
-use Rattle.np_json.specs.Meta.{type_meta}
-use Rattle.np_json.specs.Shapes.{refuse}
-use Rattle.np_meaning.specs.Types.{Admin, Base, Field, Foreign, ForeignPolicy, Net, NoPolicy, TypeMeta}
+use Rattle.np_json.specs.Prelude.{refuse, type_meta}
+use Rattle.np_meaning.specs.Prelude.{Admin, Base, Field, Foreign, ForeignPolicy, Net, NoPolicy, TypeMeta}
 use Rattle.np_json.proofs.ReadLemmas.{under-output}
 use Rattle.np_policies.proofs.ReadLemmas.{bind-output}
-use Rattle.np_policies.specs.AdminPolicies.{admin_policy, base_policy}
-use Rattle.np_policies.specs.NetworkPolicies.{net_policy}
-use Rattle.np_policies.specs.Policies.{is_network_policy, is_of, policy_kind, policy_by, policy_of}
+use Rattle.np_policies.specs.Prelude.{admin_policy, base_policy, is_network_policy, is_of, net_policy, policy_by, policy_kind, policy_of}
 
 -- an object whose kind is no network policy is of no kind that is one
 not_of : (version kind : List ℕ) (meta : TypeMeta) → is_network_policy kind ≡ true → is_network_policy meta.kind ≡ false → is_of version kind meta ≡ false

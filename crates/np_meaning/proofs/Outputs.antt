@@ -2,17 +2,14 @@
 use Rattle.std.proofs.Common.{◌≡◌, ℕ, pos, ◌+◌, List, [], ◌∷◌, Bool, false, Option, Some, None, unwrap_or, Ok, Err, refl, ap, subst}
 use Rattle.serde_json.specs.Data.{Data, object, Items, no_items, item, no_members}
 use Rattle.serde_json.specs.Find.{as_array, as_bool, as_str}
-use Rattle.np_items.specs.Inputs.{values}
-use Rattle.np_json.specs.Members.{member_of}
-use Rattle.np_json.specs.Scalars.{flag, name, port, text}
-use Rattle.np_json.specs.Shapes.{Read, ◌>>=◌, each_item, given, list_by, listed, optional, read_member, required, under}
+use Rattle.np_items.specs.Prelude.{values}
+use Rattle.np_json.specs.Prelude.{Read, each_item, flag, given, list_by, listed, member_of, name, optional, port, read_member, required, text, under, ◌>>=◌}
 use Rattle.np_json.specs.declared.path.Step.TheVariants.{Field, Item}
 use Rattle.np_json.proofs.ReadLemmas.{under-output}
 use Rattle.np_policies.proofs.ReadLemmas.{bind-output}
 use Rattle.np_meaning.proofs.MemberReads.{of_type-output, object_at-output, port-whole}
 use Rattle.np_meaning.specs.EachPod.{AreEach}
-use Rattle.np_meaning.specs.ObjectMeaning.{is_true_at, list_at}
-use Rattle.np_meaning.specs.MemberMeaning.{number_at, text_at, object_at}
+use Rattle.np_meaning.specs.Prelude.{is_true_at, list_at, number_at, object_at, text_at}
 
 -- what a definition of a reading gives
 abbrev pub OutputOf : {A : Type 0} → (Data → Read A) → Type 0

@@ -12,21 +12,19 @@ use Rattle.std.proofs.lemmas.Bool.{eqb-true, false≢true, true≢false}
 use Rattle.std.proofs.lemmas.List.Folds.{list_any-append}
 use Rattle.std.proofs.lemmas.List.Quantifiers.{position-Some}
 use Rattle.std.proofs.lemmas.Option.{none-some, option_and_then_some, same_Some, slice_get-get_or, slice_get-map, slice_get_within}
-use Rattle.np_owners.specs.Chains.{chain, first_cycle, last_of, owners, top, up, IsChains}
+use Rattle.np_owners.specs.Prelude.{IsChains, chain, controller_place, first_cycle, is_named, last_of, name_of, owner_of, owner_place, owners, place_in_namespace, place_of, same_name, top, up, ups}
 use Rattle.np_owners.proofs.Ends.{up-top}
 use Rattle.np_owners.proofs.Walks.{chain_none}
-use Rattle.np_meaning.specs.Types.{ControllerItem, Item, ObjectName, OwnerRef}
+use Rattle.np_meaning.specs.Prelude.{ControllerItem, IsChainOfOwners, IsInChain, IsNamedIn, Item, ObjectName, OwnerRef, Owns, controller_item}
 use Rattle.np_items.specs.declared.item.Item.TheVariants as item
-use Rattle.np_objects.specs.ControllerKinds.{is_controller_kind, kind_name}
+use Rattle.np_objects.specs.Prelude.{is_controller_kind, kind_name}
 use Rattle.np_objects.specs.declared.object.Object.TheVariants as object
 use Rattle.np_objects.proofs.OwnerLemmas.{is_controller_kind-name}
 use Rattle.np_owners.proofs.PlaceLemmas.{equal_names, same_name-sym}
-use Rattle.np_owners.specs.Names.{is_named, name_of, place_of, same_name}
-use Rattle.np_owners.specs.Owners.{controller_place, owner_of, owner_place, place_in_namespace, ups}
 use Rattle.np_policies.specs.declared.policy.Policy.TheVariants as policy
 use Rattle.np_reading.proofs.LawfulLists.{AllLater}
 use Rattle.np_reading.proofs.LawfulNames.{AreNamedApart}
-use Rattle.np_meaning.specs.TemplatePods.{controller_item, IsChainOfOwners, IsInChain, IsNamedBy, IsNamedIn, Owns}
+use Rattle.np_meaning.specs.TemplatePods.{IsNamedBy}
 
 -- ---- what is in a list
 

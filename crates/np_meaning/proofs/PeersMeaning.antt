@@ -3,21 +3,13 @@ use Rattle.std.proofs.Common.{◌≡◌, ℕ, ◌+◌, List, [], ◌∷◌, map,
 use Rattle.std.proofs.lemmas.Bool.{not-false, or_parts}
 use Rattle.serde_json.specs.Data.{Data, Items, no_items, item}
 use Rattle.serde_json.specs.Find.{as_str}
-use Rattle.np_addr.specs.AddressGrammar.{cidr_of}
-use Rattle.np_addr.specs.Blocks.{first_bad_except}
-use Rattle.np_meaning.specs.Types.{BadCidr, Block, Cidr, IpBlock, NetPeer, PeerShape, Selector}
-use Rattle.np_json.specs.Members.{member_of}
-use Rattle.np_json.specs.Scalars.{text}
-use Rattle.np_json.specs.Shapes.{Read, ◌>>◌, each_item, has_member, listed, must_be_object, optional, or_refuse, refuse_if, required}
+use Rattle.np_addr.specs.Prelude.{cidr_of, first_bad_except}
+use Rattle.np_meaning.specs.Prelude.{BadCidr, Block, Cidr, IpBlock, IsBlockOf, IsReadOf, NetPeer, PeerShape, Selector, blocks_of, text_at}
+use Rattle.np_json.specs.Prelude.{Read, each_item, has_member, listed, member_of, must_be_object, optional, or_refuse, refuse_if, required, text, ◌>>◌}
 use Rattle.np_policies.proofs.ReadLemmas.{bind-output, then-output, optional-output, required-output, listed-output, each_item-output, or_refuse-output, IsOptional}
 use Rattle.np_meaning.proofs.MemberReads.{of_type-output}
 use Rattle.np_policies.proofs.WellLemmas.{unbroken-output}
-use Rattle.np_policies.specs.Blocks.{cidr, ip_block, refuse_except}
-use Rattle.np_policies.specs.NetworkPolicies.{is_misshapen, net_peer, net_peer_by}
-use Rattle.np_meaning.specs.PolicyMeaning.{blocks_of, IsBlockOf, IsReadOf}
-use Rattle.np_policies.specs.Items.{items_at}
-use Rattle.np_meaning.specs.MemberMeaning.{text_at}
-use Rattle.np_policies.specs.Selectors.{selector}
+use Rattle.np_policies.specs.Prelude.{cidr, ip_block, is_misshapen, items_at, net_peer, net_peer_by, refuse_except, selector}
 use Rattle.np_model.specs.declared.network_policy.NetPeer.TheVariants.{Pods}
 
 IsReadOf-optional : {A : Type 0} (shape : Data → Read A) (member : Option Data) (output : Option A) → IsOptional shape member output → IsReadOf shape member output

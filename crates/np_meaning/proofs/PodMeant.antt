@@ -8,28 +8,16 @@ use Rattle.std.proofs.lemmas.List.Folds.{list_any-append}
 use Rattle.std.proofs.Math.Bool.{or_assoc, or-false}
 use Rattle.serde_json.specs.Data.{Data, object, no_members}
 use Rattle.serde_json.specs.Find.{as_str}
-use Rattle.np_addr.specs.AddressGrammar.{address_of}
-use Rattle.np_meaning.specs.Types.{Address, BadAddress, BadProtocol, Four, NamedPort, NamespaceItem, PodItem, Proto, Six, Tcp}
-use Rattle.np_conns.specs.ConnsText.{proto_named}
-use Rattle.np_json.specs.Members.{member_of}
-use Rattle.np_json.specs.Meta.{namespaced_name}
-use Rattle.np_json.specs.Scalars.{flag, name, port, protocol_name, text, word}
-use Rattle.np_json.specs.Shapes.{given, listed, must_be_object, optional, or_refuse, required}
+use Rattle.np_addr.specs.Prelude.{address_of}
+use Rattle.np_meaning.specs.Prelude.{Address, AreLabelsOf, BadAddress, BadProtocol, Four, IsContainerPort, IsNamespaceOf, IsPodOf, NamedPort, NamespaceItem, PodItem, Proto, Six, Tcp, has_name, is_address, is_final, is_text_empty, is_true_at, list_at, named_ports, number_at, object_at, protocol_of, says_address, text_at}
+use Rattle.np_conns.specs.Prelude.{proto_named}
+use Rattle.np_json.specs.Prelude.{flag, given, listed, member_of, must_be_object, name, namespaced_name, optional, or_refuse, port, protocol_name, required, text, word}
 use Rattle.np_meaning.proofs.MetaMeant.{labels-meant, namespaced_name-meant, IsOwn}
 use Rattle.np_meaning.proofs.Outputs.{OutputOf, optional-output, each-output, number_at-required, is_true_at-optional, text_at-optional, IsOptional, text-output}
 use Rattle.np_meaning.proofs.MemberReads.{text_at-output, word-output, object_at-output, name-output}
 use Rattle.np_policies.proofs.ReadLemmas.{bind-output, then-output}
-use Rattle.np_objects.specs.Labels.{label_map}
-use Rattle.np_objects.specs.Lists.{unless_empty}
-use Rattle.np_objects.specs.Namespaces.{namespace, namespace_metadata}
+use Rattle.np_objects.specs.Prelude.{address, address_by, container, container_port, distinct, has_address, if_named, is_finished, is_same, kept_with, label_map, namespace, namespace_metadata, no_status, owner_reference, pod, pod_ip, pod_item, pod_metadata, pod_spec, pod_status, port_name, unless_empty}
 use Rattle.np_meaning.specs.EachPod.{AreEach}
-use Rattle.np_meaning.specs.ObjectMeaning.{has_name, is_address, is_final, is_text_empty, list_at, is_true_at, named_ports, says_address, AreLabelsOf, IsContainerPort, IsNamespaceOf, IsPodOf}
-use Rattle.np_objects.specs.Owners.{owner_reference}
-use Rattle.np_objects.specs.PodSpecs.{container, pod_spec}
-use Rattle.np_objects.specs.Pods.{pod, pod_item, pod_metadata}
-use Rattle.np_objects.specs.Ports.{container_port, if_named, port_name}
-use Rattle.np_objects.specs.Statuses.{address, address_by, distinct, has_address, is_finished, is_same, kept_with, no_status, pod_ip, pod_status}
-use Rattle.np_meaning.specs.MemberMeaning.{number_at, protocol_of, text_at, object_at}
 
 -- what the members of a pod are read as, each for itself
 abbrev PodMetadata : Type 0

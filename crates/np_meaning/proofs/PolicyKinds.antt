@@ -4,17 +4,12 @@ use Rattle.std.specs.Cmp.Lexicographic.{bytes_decides}
 use Rattle.std.specs.Str.{bytes_eq}
 use Rattle.serde_json.specs.Data.{Data}
 use Rattle.serde_json.specs.Find.{as_str}
-use Rattle.np_json.specs.Meta.{type_meta}
-use Rattle.np_json.specs.Scalars.{text}
-use Rattle.np_json.specs.Shapes.{must_be_object, refuse, required}
-use Rattle.np_meaning.specs.Types.{Admin, AdminPolicy, Base, BasePolicy, Field, Foreign, ForeignPolicy, Net, NetPolicy, NoPolicy, Policy, PolicyKind, TypeMeta}
+use Rattle.np_json.specs.Prelude.{must_be_object, refuse, required, text, type_meta}
+use Rattle.np_meaning.specs.Prelude.{Admin, AdminPolicy, Base, BasePolicy, Field, Foreign, ForeignPolicy, IsOfKind, Net, NetPolicy, NoPolicy, Policy, PolicyKind, TypeMeta}
 use Rattle.np_json.proofs.ReadLemmas.{under-output}
 use Rattle.np_policies.proofs.ReadLemmas.{bind-output, then-output}
 use Rattle.np_meaning.proofs.MemberReads.{of_type-output, text_at-output}
-use Rattle.np_policies.specs.AdminPolicies.{admin_policy, base_policy}
-use Rattle.np_policies.specs.NetworkPolicies.{net_policy}
-use Rattle.np_policies.specs.Policies.{is_network_policy, is_of, policy_kind, policy_by, policy_of}
-use Rattle.np_meaning.specs.MemberMeaning.{IsOfKind}
+use Rattle.np_policies.specs.Prelude.{admin_policy, base_policy, is_network_policy, is_of, net_policy, policy_by, policy_kind, policy_of}
 use Rattle.np_policies.specs.declared.policy.Policy.TheVariants as policy
 
 -- the kind of a policy, and that the shape of its kind read it

@@ -1,17 +1,14 @@
 -- A port entry that was read is what its members say. For `port_entries_mean_their_members`.
 use Rattle.std.proofs.Common.{◌≡◌, ℕ, ℤ, pos, List, length, not, ◌==◌, Option, Some, None, unwrap_or, codes, Ok, refl, sym, ap, subst, ◌∙◌}
 use Rattle.serde_json.specs.Data.{Data, object, no_members, string}
-use Rattle.np_meaning.specs.Types.{BadField, BadPort, Name, NetPort, PortValue, Proto, Tcp}
+use Rattle.np_meaning.specs.Prelude.{BadField, BadPort, Name, NetPort, PortValue, Proto, Tcp, number_at, protocol_of}
 use Rattle.np_policies.specs.declared.net_port_shape.PortValue.TheVariants.{Number}
-use Rattle.np_json.specs.Members.{as_whole, member_of}
-use Rattle.np_json.specs.Scalars.{port, port_number, protocol_name, whole}
-use Rattle.np_json.specs.Shapes.{Read, ◌>>◌, must_be_object, optional, refuse_if}
-use Rattle.np_model.specs.Words.{is_word}
+use Rattle.np_json.specs.Prelude.{Read, as_whole, member_of, must_be_object, optional, port, port_number, protocol_name, refuse_if, whole, ◌>>◌}
+use Rattle.np_model.specs.Prelude.{is_word}
 use Rattle.np_policies.proofs.ReadLemmas.{bind-output, then-output, optional-output, IsOptional}
 use Rattle.np_meaning.proofs.PodMeant.{protocol-meant}
 use Rattle.np_meaning.proofs.MemberReads.{port-whole, port_number-whole}
-use Rattle.np_meaning.specs.MemberMeaning.{number_at, protocol_of}
-use Rattle.np_policies.specs.Ports.{end_port, may_end, net_port, net_port_by, number_of, port_name, port_value, port_value_by, protocol}
+use Rattle.np_policies.specs.Prelude.{end_port, may_end, net_port, net_port_by, number_of, port_name, port_value, port_value_by, protocol}
 use Rattle.np_model.specs.declared.network_policy.NetPort.TheVariants.{Span, Named}
 
 -- a number that was read as a port is the port

@@ -5,18 +5,16 @@ use Rattle.std.proofs.lemmas.Bool.{and_parts, eqb-true, false_from_ne_true, true
 use Rattle.std.proofs.lemmas.Fmt.{decimal_is_IsNumeral_wide}
 use Rattle.std.proofs.lemmas.List.{length-map}
 use Rattle.std.proofs.lemmas.List.Elements.{All-append, All-cons, All-nil}
-use Rattle.np_meaning.specs.Types.{Controller, EstateLists, Family, Pod, Report, Row, RowEnd, Span, Work}
+use Rattle.np_meaning.specs.Prelude.{Controller, EstateLists, Family, IsEndOf, IsRowOf, Pod, Report, Row, RowEnd, Span, Work}
 use Rattle.np_addr.specs.declared.address.Family.TheVariants.{Four, Six}
-use Rattle.np_addr.specs.Pieces.{pieces}
+use Rattle.np_addr.specs.Prelude.{pieces}
 use Rattle.np_addr.proofs.PieceLemmas.{IsOther, IsOther-from_digits, pieces-first, pieces-one}
 use Rattle.np_conns.proofs.OneText.{conns_text-injective}
-use Rattle.np_fold.specs.Workloads.{first_pods, folding_of, owner_name, owner_name_at, owner_names}
-use Rattle.np_meaning.specs.EstateRows.{IsEndOf, IsRowOf}
-use Rattle.np_report.specs.RowText.{end_text, family_suffix, names_of, row_text}
+use Rattle.np_fold.specs.Prelude.{first_pods, folding_of, owner_name, owner_name_at, owner_names}
+use Rattle.np_report.specs.Prelude.{end_text, family_suffix, names_of, row_text}
 use Rattle.np_meaning.proofs.EndTexts.{IsNoSpanByte, lacks-from, one-end, span-lacks}
 use Rattle.np_meaning.proofs.NameTexts.{few-workloads, name-within, names-all}
-use Rattle.np_model.specs.Lawful.{IsLawful, is_well_pod}
-use Rattle.np_model.specs.Words.{is_name, is_word_byte}
+use Rattle.np_model.specs.Prelude.{IsLawful, is_name, is_well_pod, is_word_byte}
 use Rattle.np_names.specs.Names.{namesakes, suffix}
 use Rattle.np_names.proofs.CountLemmas.{few-namesakes, number_among, number-among-namesakes}
 use Rattle.std.proofs.lemmas.List.Sums.{AllPass-from_list_all}

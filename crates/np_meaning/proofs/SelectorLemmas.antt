@@ -6,21 +6,14 @@ use Rattle.std.specs.Str.{bytes_eq}
 use Rattle.std.proofs.Math.Bool.{or-false}
 use Rattle.serde_json.specs.Data.{Data, object, Members, no_members, member}
 use Rattle.serde_json.specs.Find.{as_str, as_object}
-use Rattle.np_json.specs.Members.{as_pairs, member_of, pairs_of_members}
-use Rattle.np_model.specs.Words.{is_label, is_whole_word}
-use Rattle.np_json.specs.Scalars.{labels, of_type, text, word}
-use Rattle.np_json.specs.Shapes.{◌>>◌, listed, must_be_object, optional, refuse, refuse_if, required}
-use Rattle.np_meaning.specs.Types.{Absent, BadField, BadSelector, NoneOf, OneOf, Op, Pair, Present, Requirement, Selector}
-use Rattle.np_labels.specs.Labels.{value_of}
-use Rattle.np_labels.specs.Selectors.{allows, is_listed, label_requirement, meets_requirement, meets_selector, requirement_of}
-use Rattle.np_labels.specs.Values.{distinct}
-use Rattle.np_labels.specs.WellFormed.{fits}
+use Rattle.np_json.specs.Prelude.{as_pairs, labels, listed, member_of, must_be_object, of_type, optional, pairs_of_members, refuse, refuse_if, required, text, word, ◌>>◌}
+use Rattle.np_model.specs.Prelude.{is_label, is_whole_word}
+use Rattle.np_meaning.specs.Prelude.{Absent, BadField, BadSelector, NoneOf, OneOf, Op, Pair, Present, Requirement, Selector, any_item, has_entries, has_text, is_among, is_text, meets_expression, meets_members, meets_operator}
+use Rattle.np_labels.specs.Prelude.{allows, distinct, fits, is_listed, label_requirement, meets_requirement, meets_selector, requirement_of, value_of}
 pub use Rattle.np_labels.proofs.Distinct.{is_listed-distinct}
 use Rattle.np_policies.proofs.ReadLemmas.{bind-output, then-output, optional-output, listed-output, list_all-each_item, IsOptional}
 use Rattle.np_meaning.proofs.MemberReads.{list_any-each_item, of_type-output, word-output, text_at-output}
-use Rattle.np_meaning.specs.SelectorMeaning.{any_item, has_entries, has_text, is_among, is_text, meets_expression, meets_members, meets_operator}
-use Rattle.np_policies.specs.Items.{items_at}
-use Rattle.np_policies.specs.Selectors.{expression, fitting, has_other, key, op_named, selector}
+use Rattle.np_policies.specs.Prelude.{expression, fitting, has_other, items_at, key, op_named, selector}
 
 -- ---- labels
 

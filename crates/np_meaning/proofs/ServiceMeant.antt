@@ -7,24 +7,16 @@ use Rattle.std.proofs.lemmas.Bool.Decides.{nat_tests}
 use Rattle.std.proofs.Math.Bool.{or-false}
 use Rattle.serde_json.specs.Data.{Data, object, Members, no_members, member}
 use Rattle.serde_json.specs.Find.{as_object, as_str}
-use Rattle.np_meaning.specs.Types.{Named, Number, Pair, PortName, ServiceItem, ServicePort, Tcp}
-use Rattle.np_json.specs.Members.{as_whole, member_of, pairs_of_members}
-use Rattle.np_json.specs.Meta.{namespaced_name}
-use Rattle.np_json.specs.Scalars.{labels, port, port_number, protocol_name, text}
-use Rattle.np_json.specs.Shapes.{listed, must_be_object, optional, required}
-use Rattle.np_labels.specs.Labels.{value_of}
-use Rattle.np_labels.specs.Selectors.{allows, label_requirement, meets_requirement}
+use Rattle.np_meaning.specs.Prelude.{IsServiceOf, IsServicePort, IsServiceSelector, Named, Number, Pair, PortName, ServiceItem, ServicePort, Tcp, entries_at, have_entries, is_text_of, list_at, number_at, object_at, target_at, text_at}
+use Rattle.np_json.specs.Prelude.{as_whole, labels, listed, member_of, must_be_object, namespaced_name, optional, pairs_of_members, port, port_number, protocol_name, required, text}
+use Rattle.np_labels.specs.Prelude.{allows, label_requirement, meets_requirement, value_of}
 use Rattle.np_labels.specs.declared.op.Op.TheVariants.{OneOf}
 use Rattle.np_meaning.proofs.MetaMeant.{labels-output, namespaced_name-meant, pairs-member}
 use Rattle.np_meaning.proofs.Outputs.{OutputOf, optional-output, each-output, number_at-required, text_at-optional, IsOptional}
 use Rattle.np_policies.proofs.ReadLemmas.{bind-output, then-output}
 use Rattle.np_meaning.proofs.PodMeant.{port_name-meant, port_name-output, protocol-meant, IsTextOr}
-use Rattle.np_objects.specs.Controllers.{is_zero}
+use Rattle.np_objects.specs.Prelude.{by_name, by_number, is_text, is_zero, port_name, selector_of, service, service_item, service_port, service_spec, target_by, target_port}
 use Rattle.np_meaning.specs.EachPod.{AreEach}
-use Rattle.np_meaning.specs.ObjectMeaning.{have_entries, is_text_of, list_at, target_at, IsServiceOf, IsServicePort, IsServiceSelector}
-use Rattle.np_objects.specs.Ports.{port_name}
-use Rattle.np_objects.specs.Services.{by_name, by_number, is_text, selector_of, service, service_item, service_port, service_spec, target_by, target_port}
-use Rattle.np_meaning.specs.MemberMeaning.{entries_at, number_at, text_at, object_at}
 use Rattle.np_meaning.proofs.MemberReads.{object_at-output, port_number-whole}
 
 -- what the spec of a service is read as

@@ -5,26 +5,20 @@ use Rattle.std.proofs.lemmas.Bool.{and_from, or_left, eqb-true, false≢true, le
 use Rattle.std.proofs.lemmas.List.Elements.{All-head, All-tail}
 use Rattle.std.proofs.lemmas.List.Folds.{list_any_at}
 use Rattle.std.proofs.lemmas.Option.{same_Some}
-use Rattle.np_meaning.specs.Types.{Address, AddressSpan, Cidr, Family, One, Range, Report, Two}
+use Rattle.np_meaning.specs.Prelude.{Address, AddressSpan, Cidr, Family, IsRangeOf, IsSpan, One, Range, Report, Two}
 use Rattle.np_addr.specs.declared.address.Address.TheVariants as address
 use Rattle.np_addr.specs.declared.address.Family.TheVariants as family
 use Rattle.np_addr.specs.declared.cidr.Cidr.TheVariants as cidr
-use Rattle.np_addr.specs.Addresses.{IsAddress, IsCidr, cidr_has}
-use Rattle.np_addr.specs.AddressGrammar.{cidr_of}
-use Rattle.np_addr.specs.AddressText.{address_text, cidr_text}
-use Rattle.np_addr.specs.Blocks.{AddressRanges, base_of, set_has}
-use Rattle.np_addr.specs.Pieces.{pieces}
-use Rattle.np_addr.specs.Prefixes.{IsRightPrefixList, some_has}
+use Rattle.np_addr.specs.Prelude.{AddressRanges, IsAddress, IsCidr, IsRightPrefixList, address_text, base_of, cidr_has, cidr_of, cidr_text, pieces, set_has, some_has}
 use Rattle.np_addr.proofs.CanonicalLemmas.{address_text_injective, cidr_of-cidr_text}
 use Rattle.np_addr.proofs.PieceLemmas.{IsOther, pieces-first, pieces-one}
 use Rattle.np_addr.proofs.PrefixLemmas.{prefixes_of-one_four, prefixes_of-one_six}
 use Rattle.np_addr.proofs.RightPrefixes.{prefixes_of-right}
 use Rattle.np_addr.proofs.OnePrefixList.{base_is_in}
 use Rattle.np_base.specs.Ranges.{holds}
-use Rattle.np_meaning.specs.EstateRows.{IsRangeOf, IsSpan}
-use Rattle.np_report.specs.RowText.{blocks_of, ends_text, span_text}
-use Rattle.np_table.specs.Said.{IsInFamily}
-use Rattle.np_kinds.specs.Between.{address_of}
+use Rattle.np_report.specs.Prelude.{blocks_of, ends_text, span_text}
+use Rattle.np_table.specs.Prelude.{IsInFamily}
+use Rattle.np_kinds.specs.Prelude.{address_of}
 use Rattle.np_table.specs.declared.rows.AddressSpan.TheVariants as span
 use Rattle.np_meaning.proofs.AddressBytes.{IsForeign, address-lacks, block-lacks}
 

@@ -1,6 +1,5 @@
 -- Which controllers stand for a pod. For `controllers_without_pods_have_template_pods`.
-use Rattle.std.proofs.Common.{◌≡◌, ◌↔◌, ℕ, zero, suc, ◌+◌, ◌<◌, ◌≤◌, List, [], ◌∷◌, length, map, Bool, true, false, cond, not, ◌&&◌, ◌||◌, is_some, is_none, nat_eq, nat_le}
-use Rattle.std.proofs.Common.{Option, Some, None, Result, Ok, Err, refl, sym, ap, ◌∙◌, zero-add}
+use Rattle.std.proofs.Common.{◌≡◌, ◌↔◌, ℕ, zero, suc, ◌+◌, ◌<◌, ◌≤◌, List, [], ◌∷◌, length, map, Bool, true, false, cond, not, ◌&&◌, ◌||◌, is_some, is_none, nat_eq, nat_le, Option, Some, None, Result, Ok, Err, refl, sym, ap, ◌∙◌, zero-add}
 use Rattle.std.specs.Prelude.{⊤}
 use Rattle.std.specs.List.{Contains, list_any, slice_get}
 use Rattle.std.specs.Option.{option_map, option_map_or}
@@ -10,29 +9,22 @@ use Rattle.std.proofs.lemmas.List.{length-map}
 use Rattle.std.proofs.lemmas.List.Folds.{Any-from_list_any, list_any_at}
 use Rattle.std.proofs.lemmas.List.FromFn.{get_or-range_with_len, length-range_with_len}
 use Rattle.std.proofs.lemmas.Option.{none-some, same_Some, slice_get_within}
-use Rattle.np_owners.specs.Chains.{first_cycle, is_at_or_over, is_marked, owners, places, IsChains}
-use Rattle.np_meaning.specs.Types.{ControllerItem, EstateLists, Item, PodItem}
+use Rattle.np_owners.specs.Prelude.{IsChains, first_cycle, full_name_of, has_pods, is_at_or_over, is_marked, is_pod, makes_pod, owner_place, owners, places, ups, wants_pods}
+use Rattle.np_meaning.specs.Prelude.{ControllerItem, EstateLists, HasTemplatePod, IsInChain, Item, LacksPods, PodItem, controller_item, pod_item}
 use Rattle.np_items.specs.declared.item.Item.TheVariants as item
 use Rattle.np_objects.specs.declared.object.Object.TheVariants as object
-use Rattle.np_owners.specs.MadePods.{has_pods, is_pod, makes_pod, wants_pods}
-use Rattle.np_owners.specs.Owners.{full_name_of, owner_place, ups}
 use Rattle.np_reading.proofs.LawfulLists.{AllLater}
 use Rattle.np_reading.proofs.LawfulNames.{items_apart, AreNamedApart}
 use Rattle.np_reading.proofs.ReadingLemmas.{estate_of-passed}
-use Rattle.np_reading.specs.Listed.{have_priorities_apart}
-use Rattle.np_reading.specs.Reading.{estate_of, have_names_apart, have_no_cycle, estate_of_items}
-use Rattle.np_reading.specs.Readings.{Reading, refuse_found}
+use Rattle.np_reading.specs.Prelude.{Reading, estate_of, estate_of_items, have_names_apart, have_no_cycle, have_priorities_apart, refuse_found}
 use Rattle.np_reading.specs.declared.refusal.Refusal.TheVariants.{OwnerCycle}
-use Rattle.np_items.specs.Inputs.{all_values}
-use Rattle.np_items.specs.Items.{each_item, item_of, items_of, must_be_few}
-use Rattle.np_items.specs.Readings.{Reading as ItemsReading}
-use Rattle.np_json.specs.Shapes.{◌>>=◌, ◌>>◌}
+use Rattle.np_items.specs.Prelude.{Reading as ItemsReading, all_values, each_item, item_of, items_of, must_be_few}
+use Rattle.np_json.specs.Prelude.{◌>>=◌, ◌>>◌}
 use Rattle.np_items.specs.declared.fault.ItemsFault.{ItemsFault}
 use Rattle.np_items.specs.declared.fault.ItemsFault.TheVariants.{TooManyItems}
 use Rattle.serde_json.specs.Data.{Data}
 use Rattle.np_owners.proofs.ChainLemmas.{IsChains-ups}
 use Rattle.np_meaning.proofs.OwnerChainLemmas.{Contains-at, at-Contains, owner-found, owns-place, is_at, chain-stands, stands-chain, among-owners}
-use Rattle.np_meaning.specs.TemplatePods.{controller_item, pod_item, HasTemplatePod, IsInChain, LacksPods}
 
 -- ---- pods
 

@@ -6,21 +6,12 @@ use Rattle.std.specs.Prelude.{IfSome}
 use Rattle.std.specs.Str.{bytes_eq}
 use Rattle.serde_json.specs.Data.{Data, object, Items, no_items, item, no_members}
 use Rattle.serde_json.specs.Find.{as_str}
-use Rattle.np_json.specs.Members.{member_of}
-use Rattle.np_json.specs.Meta.{namespaced_name}
-use Rattle.np_json.specs.Scalars.{of_type, text}
-use Rattle.np_json.specs.Shapes.{Read, each_item, listed, must_be_object, optional, refuse_if, required, under}
-use Rattle.np_meaning.specs.MemberMeaning.{object_at, spec_of}
-use Rattle.np_meaning.specs.Types.{Direction, Egress, Ingress, NamespacedName, NetPolicy, NetRule, NetSpec, Selector}
+use Rattle.np_json.specs.Prelude.{Read, each_item, listed, member_of, must_be_object, namespaced_name, of_type, optional, refuse_if, required, text, under}
+use Rattle.np_meaning.specs.Prelude.{Direction, Egress, Ingress, NamespacedName, NetPolicy, NetRule, NetSpec, Selector, has_egress, has_ingress, is_empty, is_text, object_at, spec_of}
 use Rattle.np_meaning.proofs.PolicyKinds.{net-read}
 use Rattle.np_policies.proofs.ReadLemmas.{bind-output, then-output, optional-output, listed-output, each_item-output, IsOptional}
 use Rattle.np_meaning.proofs.MemberReads.{list_any-each_item, of_type-output}
-use Rattle.np_policies.specs.NetworkPolicies.{direction_named, empty_spec, has_direction, is_same, net_policy, net_policy_by, net_rule, net_rules, net_spec, policy_type, rules_if}
-use Rattle.np_policies.specs.Policies.{policy_of}
-use Rattle.np_meaning.specs.PolicyMeaning.{has_egress, has_ingress, is_empty}
-use Rattle.np_meaning.specs.SelectorMeaning.{is_text}
-use Rattle.np_policies.specs.Items.{items_at}
-use Rattle.np_policies.specs.Selectors.{everything, selector}
+use Rattle.np_policies.specs.Prelude.{direction_named, empty_spec, everything, has_direction, is_same, items_at, net_policy, net_policy_by, net_rule, net_rules, net_spec, policy_of, policy_type, rules_if, selector}
 use Rattle.np_policies.specs.declared.policy.Policy.TheVariants as policy
 
 -- a type that was read is the text of its item

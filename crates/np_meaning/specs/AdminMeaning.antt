@@ -4,13 +4,12 @@
 use Rattle.std.specs.Prelude.{◌≡◌, ℕ, pos, List, map, Option, Some, None, codes, Ok}
 use Rattle.serde_json.specs.Data.{Data}
 use Rattle.serde_json.specs.Find.{as_str}
-use Rattle.np_json.specs.Members.{member_of}
+use Rattle.np_json.specs.Prelude.{member_of}
 use Rattle.np_meaning.specs.Types.{Action, AdminPeer, AdminPolicy, AdminPort, AdminRule, Allow, BasePolicy, Deny, Networks, Pass, Pods, Selector, Subject}
 use Rattle.np_model.specs.declared.admin_policy.AdminPort.TheVariants.{Named, Span}
 use Rattle.np_meaning.specs.PolicyMeaning.{blocks_of, AreEach, IsReadOf}
-use Rattle.np_policies.specs.Items.{items_at}
+use Rattle.np_policies.specs.Prelude.{everything, items_at, selector}
 use Rattle.np_meaning.specs.MemberMeaning.{number_at, object_at, protocol_of, spec_of, IsOfKind, text_at}
-use Rattle.np_policies.specs.Selectors.{everything, selector}
 
 -- ---- subjects and peers
 

@@ -2,7 +2,7 @@
 -- StatefulSetSpec, ReplicationControllerSpec, DaemonSetSpec, JobSpec, CronJobSpec and PodTemplateSpec).
 use Rattle.std.specs.Prelude.{◌≡◌, ℤ, pos, negsuc, zero, suc, Bool, true, false, ◌&&◌, Option, Some, None, codes, ⊤}
 use Rattle.serde_json.specs.Data.{Data}
-use Rattle.np_json.specs.Members.{member_of}
+use Rattle.np_json.specs.Prelude.{member_of}
 use Rattle.np_meaning.specs.EachPod.{AreEach}
 use Rattle.np_meaning.specs.ObjectMeaning.{metadata_of, named_ports, is_true_at, AreLabelsOf, IsContainerPort, IsNamed}
 use Rattle.np_meaning.specs.Types.{ControllerItem, ControllerKind, CronJob, DaemonSet, Deployment, Job, ReplicaSet, ReplicationController, StatefulSet, Template}

@@ -5,9 +5,9 @@ use Rattle.std.specs.Option.{option_and_then}
 use Rattle.std.specs.Str.{bytes_eq}
 use Rattle.np_meaning.specs.Types.{ControllerItem, EstateLists, Item, NamespaceItem, Pod, PodItem, Template}
 use Rattle.np_items.specs.declared.item.Item.TheVariants as item
-use Rattle.np_labels.specs.Labels.{last_value_of, value_of}
+use Rattle.np_labels.specs.Prelude.{last_value_of, value_of}
 use Rattle.np_objects.specs.declared.object.Object.TheVariants as object
-use Rattle.np_owners.specs.MadePods.{makes_pod}
+use Rattle.np_owners.specs.Prelude.{makes_pod}
 
 -- each of one list is what the relation says of the one at its place in another, and there are as many
 abbrev pub AreEach : {A B : Type 0} → (A → B → Type 0) → List A → List B → Type 0

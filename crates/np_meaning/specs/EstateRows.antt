@@ -2,9 +2,9 @@
 use Rattle.std.specs.Prelude.{◌≤◌, ℕ, ⊤}
 use Rattle.np_meaning.specs.Types.{AddressSpan, Controller, EstateLists, Family, Range, Row, RowEnd, Span, Work}
 use Rattle.np_addr.specs.declared.address.Family.TheVariants as family
-use Rattle.np_conns.specs.Conns.{IsConns}
-use Rattle.np_table.specs.Said.{IsInFamily}
-use Rattle.np_kinds.specs.Between.{IsWorkload}
+use Rattle.np_conns.specs.Prelude.{IsConns}
+use Rattle.np_table.specs.Prelude.{IsInFamily}
+use Rattle.np_kinds.specs.Prelude.{IsWorkload}
 use Rattle.np_table.specs.declared.rows.AddressSpan.TheVariants as span
 
 -- a range that has an address, and none but those of the family

@@ -2,12 +2,7 @@
 use Rattle.std.specs.Prelude.{◌≡◌, ℕ, List, codes, Ok, ⊤}
 use Rattle.serde_json.specs.Data.{Data}
 use Rattle.np_meaning.specs.MemberMeaning.{IsOfKind}
-use Rattle.np_objects.specs.ControllerKinds.{kind_name}
-use Rattle.np_objects.specs.Controllers.{controller}
-use Rattle.np_objects.specs.Ingresses.{ingress}
-use Rattle.np_objects.specs.Namespaces.{namespace}
-use Rattle.np_objects.specs.Pods.{pod}
-use Rattle.np_objects.specs.Services.{service}
+use Rattle.np_objects.specs.Prelude.{controller, ingress, kind_name, namespace, pod, service}
 use Rattle.np_meaning.specs.Types.{ControllerKind, CronJob, DaemonSet, Deployment, Job, Object, ReplicaSet, ReplicationController, StatefulSet}
 use Rattle.np_objects.specs.declared.object.Object.TheVariants as object
 

@@ -7,6 +7,7 @@ pub mod MemberMeaning
 pub mod Numbering
 pub mod ObjectMeaning
 pub mod PolicyMeaning
+pub mod Prelude
 pub mod SelectorMeaning
 pub mod TemplatePods
 pub mod Types

@@ -2,8 +2,8 @@
 use Rattle.std.specs.Prelude.{◌≡◌, ℕ, ℤ, List, [], ◌∷◌, Option, unwrap_or, codes}
 use Rattle.serde_json.specs.Data.{Data, object, Members, no_members}
 use Rattle.serde_json.specs.Find.{as_object, as_str}
-use Rattle.np_conns.specs.ConnsText.{proto_named}
-use Rattle.np_json.specs.Members.{as_whole, member_of}
+use Rattle.np_conns.specs.Prelude.{proto_named}
+use Rattle.np_json.specs.Prelude.{as_whole, member_of}
 use Rattle.np_meaning.specs.Types.{Proto, Tcp}
 
 -- the object of a member, and one without members where it is missing

@@ -5,14 +5,13 @@ use Rattle.std.specs.List.{flat_map, list_any}
 use Rattle.std.specs.Str.{bytes_eq}
 use Rattle.serde_json.specs.Data.{Data, no_items, Members, no_members, member}
 use Rattle.serde_json.specs.Find.{as_str, as_bool, as_array}
-use Rattle.np_items.specs.Inputs.{values}
-use Rattle.np_addr.specs.AddressGrammar.{address_of}
+use Rattle.np_items.specs.Prelude.{values}
+use Rattle.np_addr.specs.Prelude.{address_of}
 use Rattle.np_meaning.specs.Types.{Address, Backend, IngressItem, Named, NamedPort, NamespaceItem, Number, Pair, PodItem, PortName, Resource, Service, ServiceItem, ServicePort}
-use Rattle.np_json.specs.Members.{member_of}
-use Rattle.np_labels.specs.Labels.{value_of}
-use Rattle.np_labels.specs.Selectors.{meets_selector}
+use Rattle.np_json.specs.Prelude.{member_of}
+use Rattle.np_labels.specs.Prelude.{meets_selector, value_of}
 use Rattle.np_labels.specs.declared.selector.Selector.{Selector}
-use Rattle.np_objects.specs.Statuses.{has_address, is_same}
+use Rattle.np_objects.specs.Prelude.{has_address, is_same}
 use Rattle.np_meaning.specs.EachPod.{AreEach}
 use Rattle.np_meaning.specs.MemberMeaning.{entries_at, named_or_default, number_at, object_at, protocol_of, spec_of, text_at}
 

@@ -3,15 +3,12 @@
 use Rattle.std.specs.Prelude.{◌≡◌, ℕ, List, [], ◌∷◌, map, Bool, true, false, not, if◌then◌else◌, Option, Some, None, option_and_then, codes, Ok, ⊤, IfSome}
 use Rattle.serde_json.specs.Data.{Data, Items, no_items, item}
 use Rattle.serde_json.specs.Find.{as_str}
-use Rattle.np_addr.specs.AddressGrammar.{cidr_of}
+use Rattle.np_addr.specs.Prelude.{cidr_of}
 use Rattle.np_meaning.specs.MemberMeaning.{IsOfKind, named_or_default, object_at, spec_of, text_at}
 use Rattle.np_meaning.specs.Types.{Cidr, NetPolicy, NetRule}
-use Rattle.np_json.specs.Shapes.{Read}
-use Rattle.np_policies.specs.NetworkPolicies.{net_peer}
-use Rattle.np_policies.specs.Ports.{net_port}
+use Rattle.np_json.specs.Prelude.{Read}
+use Rattle.np_policies.specs.Prelude.{items_at, net_peer, net_port, selector}
 use Rattle.np_meaning.specs.SelectorMeaning.{any_item, is_text}
-use Rattle.np_policies.specs.Items.{items_at}
-use Rattle.np_policies.specs.Selectors.{selector}
 
 -- ---- lists and names
 

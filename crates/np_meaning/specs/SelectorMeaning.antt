@@ -5,8 +5,8 @@ use Rattle.std.specs.Prelude.{ℕ, List, Bool, true, false, not, ◌&&◌, ◌||
 use Rattle.std.specs.Str.{bytes_eq}
 use Rattle.serde_json.specs.Data.{Data, Items, no_items, item, Members, no_members, member}
 use Rattle.serde_json.specs.Find.{as_str}
-use Rattle.np_labels.specs.Labels.{value_of}
-use Rattle.np_policies.specs.Items.{all_items, items_at}
+use Rattle.np_labels.specs.Prelude.{value_of}
+use Rattle.np_policies.specs.Prelude.{all_items, items_at}
 
 abbrev pub any_item : (Data → Bool) → Items → Bool
 any_item test no_items = false

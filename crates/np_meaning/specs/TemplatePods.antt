@@ -3,7 +3,7 @@ use Rattle.std.specs.Prelude.{◌≡◌, ℕ, List, [], ◌∷◌, false, Option
 use Rattle.std.specs.List.{Contains}
 use Rattle.np_meaning.specs.Types.{ControllerItem, Item, OwnerRef, PodItem}
 use Rattle.np_items.specs.declared.item.Item.TheVariants as item
-use Rattle.np_objects.specs.ControllerKinds.{kind_name}
+use Rattle.np_objects.specs.Prelude.{kind_name}
 use Rattle.np_objects.specs.declared.object.Object.TheVariants as object
 
 abbrev pub pod_item : PodItem → Item

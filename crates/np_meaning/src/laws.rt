@@ -1,23 +1,13 @@
 //! What follows from the definitions of what is read.
 ghost use Rattle.std.specs.Prelude.{◌≡◌, ◌↔◌, ◌<◌, ℕ, List, Ok, Some, length, slice_get, true};
 ghost use Rattle.serde_json.specs.Data.{Data};
-ghost use Rattle.np_reading.specs.Reading.{estate_of};
+ghost use Rattle.np_reading.specs.Prelude.{estate_of};
 ghost use Rattle.np_model.specs.declared.lists.EstateLists.{EstateLists};
-ghost use Rattle.np_items.specs.Items.{items_of};
+ghost use Rattle.np_items.specs.Prelude.{items_of};
 ghost use Rattle.np_items.specs.declared.item.Item.{Item};
-ghost use Rattle.np_meaning.specs.ControllerMeaning.{IsControllerOf};
-ghost use Rattle.np_meaning.specs.EachPod.{HoldsEachPod};
-ghost use Rattle.np_meaning.specs.KindMeaning.{IsOfItsKind};
-ghost use Rattle.np_meaning.specs.Numbering.{AreNumbered};
-ghost use Rattle.np_meaning.specs.ObjectMeaning.{IsIngressOf, IsNamespaceOf, IsPodOf, IsServiceOf};
-ghost use Rattle.np_meaning.specs.TemplatePods.{HasTemplatePod};
+ghost use Rattle.np_meaning.specs.Prelude.{AreNumbered, HasTemplatePod, HoldsEachPod, IsControllerOf, IsIngressOf, IsNamespaceOf, IsOfItsKind, IsPodOf, IsServiceOf};
 ghost use Rattle.np_names.specs.Names.{wish_at};
-ghost use Rattle.np_objects.specs.Controllers.{controller};
-ghost use Rattle.np_objects.specs.Ingresses.{ingress};
-ghost use Rattle.np_objects.specs.Namespaces.{namespace};
-ghost use Rattle.np_objects.specs.Objects.{object_of};
-ghost use Rattle.np_objects.specs.Pods.{pod};
-ghost use Rattle.np_objects.specs.Services.{service};
+ghost use Rattle.np_objects.specs.Prelude.{controller, ingress, namespace, object_of, pod, service};
 ghost use Rattle.np_objects.specs.declared.controller.ControllerItem.{ControllerItem};
 ghost use Rattle.np_objects.specs.declared.controller.ControllerKind.{ControllerKind};
 ghost use Rattle.np_model.specs.declared.ingress.IngressItem.{IngressItem};
@@ -25,7 +15,7 @@ ghost use Rattle.np_objects.specs.declared.namespace.NamespaceItem.{NamespaceIte
 ghost use Rattle.np_objects.specs.declared.object.Object.{Object};
 ghost use Rattle.np_objects.specs.declared.pod_item.PodItem.{PodItem};
 ghost use Rattle.np_model.specs.declared.service.ServiceItem.{ServiceItem};
-ghost use Rattle.np_owners.specs.MadePods.{makes_pod};
+ghost use Rattle.np_owners.specs.Prelude.{makes_pod};
 
 /// An object that was read as one of a kind names that kind, in the version that is read of it, and was read by the
 /// definition of that kind.

@@ -6,7 +6,7 @@ use Rattle.std.proofs.lemmas.Bool.Decides.{nat_tests}
 use Rattle.std.specs.Str.Parse.{AllDigits}
 use Rattle.std.proofs.lemmas.Str.Parse.{digit_from_value}
 use Rattle.std.proofs.lemmas.Fmt.{decimal_is_IsNumeral}
-use Rattle.np_model.specs.Words.{is_word, is_word_byte}
+use Rattle.np_model.specs.Prelude.{is_word, is_word_byte}
 
 -- words that end at a byte that is none of a word are equal, and so is what follows
 pub words-cut : (w w' : List ℕ) (c c' : ℕ) (t t' : List ℕ) → is_word w ≡ true → is_word w' ≡ true → is_word_byte c ≡ false → is_word_byte c' ≡ false → w ++ c ∷ t ≡ w' ++ c' ∷ t' → (w ≡ w') × (c ≡ c') × (t ≡ t')

@@ -1,7 +1,7 @@
 -- The families of the addresses of pods.
 use Rattle.std.specs.Prelude.{List, [], ◌∷◌, Bool, true, false, filter}
 use Rattle.std.specs.List.{list_any}
-use Rattle.np_addr.specs.Addresses.{family_of}
+use Rattle.np_addr.specs.Prelude.{family_of}
 use Rattle.np_addr.specs.declared.address.Address.{Address}
 use Rattle.np_model.specs.Types.{AdminPeer, Family, Four, Pod, Six}
 use Rattle.np_model.specs.declared.admin_policy.AdminPeer.TheVariants.{Pods, Networks}

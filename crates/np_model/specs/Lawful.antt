@@ -8,7 +8,7 @@ use Rattle.std.specs.List.{list_all}
 use Rattle.std.specs.Option.{option_map_or}
 use Rattle.std.specs.Str.{bytes_eq}
 use Rattle.np_model.specs.Words.{is_name}
-use Rattle.np_labels.specs.Labels.{value_of}
+use Rattle.np_labels.specs.Prelude.{value_of}
 use Rattle.np_model.specs.WellObjects.{is_well_labels, is_well_ports, is_well_service, is_well_ingress}
 use Rattle.np_model.specs.Types.{AdminPolicy, NetPolicy, Pod, ServiceItem}
 use Rattle.np_model.specs.WellPolicies.{is_well_net_policy, is_well_admin_policy, is_well_base_policy}

@@ -1,7 +1,7 @@
 -- Policies whose parts are all well formed.
 use Rattle.std.specs.Prelude.{◌-◌, ◌%◌, ◌^◌, List, length, Bool, true, false, not, ◌&&◌, ◌==◌, nat_le, is_none}
 use Rattle.std.specs.List.{list_all}
-use Rattle.np_addr.specs.Blocks.{first_bad_except}
+use Rattle.np_addr.specs.Prelude.{first_bad_except}
 use Rattle.np_addr.specs.declared.cidr.Cidr.{Cidr}
 use Rattle.np_addr.specs.declared.cidr.Cidr.TheVariants.{Four, Six}
 use Rattle.np_model.specs.Words.{is_name, is_word, is_whole_word}

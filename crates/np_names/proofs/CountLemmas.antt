@@ -1,6 +1,5 @@
 -- Counts of texts, and the names that follow from them. For `count`, `counts_of` and 3 more.
-use Rattle.std.proofs.Common.{◌≡◌, ℕ, zero, suc, ◌+◌, ◌<◌, ◌≤◌, ◌==◌, List, [], ◌∷◌, ◌++◌, Bool, true, false, cond, length, take, drop, get_or, Some, filter, refl, sym, ap, ◌∙◌, arith, add-one}
-use Rattle.std.proofs.Common.{add-zero, eqb, length-append, length-take, drop-cons}
+use Rattle.std.proofs.Common.{◌≡◌, ℕ, zero, suc, ◌+◌, ◌<◌, ◌≤◌, ◌==◌, List, [], ◌∷◌, ◌++◌, Bool, true, false, cond, length, take, drop, get_or, Some, filter, refl, sym, ap, ◌∙◌, arith, add-one, add-zero, eqb, length-append, length-take, drop-cons}
 use Rattle.std.specs.Cmp.Lexicographic.{slice_cmp, bytes_decides, nat_list_eq_equiv}
 use Rattle.std.specs.List.{position_or_len, range_with_len}
 use Rattle.std.specs.Map.{lookup}

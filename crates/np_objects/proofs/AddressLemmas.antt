@@ -7,8 +7,7 @@ use Rattle.std.specs.declared.cmp.Ordering.{Ordering}
 use Rattle.std.proofs.lemmas.Bool.Decides.{nat_tests}
 use Rattle.std.proofs.lemmas.List.Folds.{list_any-append}
 use Rattle.np_addr.specs.contracts.address.AddressOrd.TheImpl as address_ord
-use Rattle.np_objects.specs.Types.{Address, Four, Six}
-use Rattle.np_objects.specs.Statuses.{is_same, has_address, kept_with, HaveSame}
+use Rattle.np_objects.specs.Prelude.{Address, Four, HaveSame, Six, has_address, is_same, kept_with}
 
 -- the order in which sets have addresses
 abbrev order : Address → Address → Ordering

@@ -7,10 +7,7 @@ use Rattle.std.specs.Str.{bytes_eq}
 use Rattle.std.proofs.lemmas.Bool.{and_from, and_parts, both_ways, false_from_ne_true, not-true, not_from_false}
 use Rattle.std.proofs.lemmas.List.Elements.{All-head, All-tail, All-cons}
 use Rattle.std.proofs.lemmas.Slice.Eq.{bytes_eq-Decides}
-use Rattle.np_objects.specs.ControllerKinds.{kinds, kind_name, is_controller_kind}
-use Rattle.np_objects.specs.OwnerLaws.{Counts, NamesOwner}
-use Rattle.np_objects.specs.Owners.{counts, names_owner, owner_of}
-use Rattle.np_objects.specs.Types.{Controller, ControllerKind, CronJob, DaemonSet, Dependent, Deployment, Job, OwnerRef, OwnerReference, Pod, ReplicaSet, ReplicationController, StatefulSet}
+use Rattle.np_objects.specs.Prelude.{Controller, ControllerKind, Counts, CronJob, DaemonSet, Dependent, Deployment, Job, NamesOwner, OwnerRef, OwnerReference, Pod, ReplicaSet, ReplicationController, StatefulSet, counts, is_controller_kind, kind_name, kinds, names_owner, owner_of}
 
 -- ---- kinds of controllers
 

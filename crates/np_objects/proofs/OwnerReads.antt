@@ -1,18 +1,9 @@
 -- The owner of an object that is read is the one that its references name. For `owner_is_read_of_references`.
 use Rattle.std.proofs.Common.{◌≡◌, ◌∙◌, ℕ, List, [], Option, Some, None, Ok, Err, codes, unwrap_or, refl, ap}
 use Rattle.serde_json.specs.Data.{Data}
-use Rattle.np_json.specs.Members.{member_of}
-use Rattle.np_json.specs.Meta.{namespaced_name}
-use Rattle.np_json.specs.Shapes.{Read, ◌>>=◌, listed, optional, read_member, refuse, required, under}
-use Rattle.np_objects.specs.Types.{BadField, ControllerItem, ControllerKind, ControllerMetadata, ControllerSpec, Dependent, Field, NamespacedName, OwnerRef, OwnerReference, Pair, PodItem, PodMetadata, PodSpec, PodStatus, Step}
+use Rattle.np_json.specs.Prelude.{Read, listed, member_of, namespaced_name, optional, read_member, refuse, required, under, ◌>>=◌}
+use Rattle.np_objects.specs.Prelude.{BadField, ControllerItem, ControllerKind, ControllerMetadata, ControllerSpec, Dependent, Field, IsOwnerIn, NamespacedName, OwnerRef, OwnerReference, Pair, PodItem, PodMetadata, PodSpec, PodStatus, Step, controller, controller_item, controller_metadata, controller_spec, label_map, no_spec, no_status, owner_of, owner_reference, pod, pod_item, pod_metadata, pod_spec, pod_status}
 use Rattle.np_json.proofs.ReadLemmas.{under-output}
-use Rattle.np_objects.specs.Controllers.{controller, controller_item, controller_metadata, controller_spec, no_spec}
-use Rattle.np_objects.specs.Labels.{label_map}
-use Rattle.np_objects.specs.OwnerLaws.{IsOwnerIn}
-use Rattle.np_objects.specs.Owners.{owner_reference, owner_of}
-use Rattle.np_objects.specs.PodSpecs.{pod_spec}
-use Rattle.np_objects.specs.Pods.{pod, pod_item, pod_metadata}
-use Rattle.np_objects.specs.Statuses.{pod_status, no_status}
 use Rattle.np_objects.specs.declared.owner_reference.Dependent.TheVariants as dependent
 
 -- ---- members

@@ -4,16 +4,13 @@ use Rattle.std.specs.List.{list_all}
 use Rattle.std.proofs.lemmas.Bool.{and_from, not-false}
 use Rattle.serde_json.specs.Data.{Data, Items, no_items, item}
 use Rattle.serde_json.specs.Find.{as_array}
-use Rattle.np_json.specs.Members.{member_of}
+use Rattle.np_json.specs.Prelude.{Read, each_item, given, labels, list_by, listed, member_of, name, optional, read_member, refuse, refuse_if, required, under, word, ◌>>=◌, ◌>>◌}
 use Rattle.np_json.specs.Meta as meta
-use Rattle.np_model.specs.Words.{is_label, is_word, is_name}
-use Rattle.np_json.specs.Scalars.{name, word, labels}
-use Rattle.np_json.specs.Shapes.{Read, ◌>>=◌, ◌>>◌, each_item, given, list_by, listed, optional, read_member, refuse, refuse_if, required, under}
+use Rattle.np_model.specs.Prelude.{is_label, is_name, is_word, option_all}
 use Rattle.np_json.specs.declared.fault.FaultKind.{FaultKind}
-use Rattle.np_objects.specs.Types.{BadField, BadName, Field, Item, Step}
+use Rattle.np_objects.specs.Prelude.{BadField, BadName, Field, Item, Step}
 use Rattle.np_json.specs.declared.flaw.Flaw.{Flaw}
 use Rattle.np_json.proofs.ReadLemmas.{is_well_own}
-use Rattle.np_model.specs.WellObjects.{option_all}
 
 -- what is read, if anything is, passes the test
 pub record ReadsOnly {A : Type 0} (passes : A → Bool) (read : Read A) : Type 0 where

@@ -9,35 +9,17 @@ use Rattle.std.specs.declared.cmp.Ordering.TheVariants.{Less, Equal, Greater}
 use Rattle.std.proofs.lemmas.Bool.{and_from, and_parts}
 use Rattle.std.proofs.lemmas.List.Folds.{list_all-append}
 use Rattle.serde_json.specs.Data.{Data}
-use Rattle.np_objects.specs.Types.{ControllerKind, ControllerMetadata, ControllerSpec, CronJob, DaemonSet, Dependent, Deployment, Job, Named, Number, Object, ObjectKind, OwnerReference, Pair, PodMetadata, PodSpec, Proto, ReplicaSet, ReplicationController, ServiceSpec, StatefulSet, Tcp}
-use Rattle.np_json.specs.Meta.{namespaced_name}
-use Rattle.np_json.specs.Members.{as_whole}
-use Rattle.np_model.specs.Words.{is_label, is_word, is_name, is_whole_word}
-use Rattle.np_json.specs.Scalars.{text, name, whole, port, protocol_name, labels}
-use Rattle.np_json.specs.Shapes.{Read, GivesItem, must_be_object, optional, required}
+use Rattle.np_objects.specs.Prelude.{ControllerKind, ControllerMetadata, ControllerSpec, CronJob, DaemonSet, Dependent, Deployment, IsWellObject, Job, Named, Number, Object, ObjectKind, OwnerReference, Pair, PodMetadata, PodSpec, Proto, ReplicaSet, ReplicationController, ServiceSpec, StatefulSet, Tcp, by_name, by_number, container, container_port, controller, controller_metadata, controller_spec, cron_job_spec, if_named, ingress, is_text, is_well_controller, is_well_namespace, is_well_object, is_well_owner, is_well_pod, is_well_template, is_zero, job_template, label_map, names_owner, namespace, namespace_metadata, no_spec, object_by, object_kind, object_of, owner_of, owner_reference, pod, pod_metadata, pod_spec, port_name, replicated_spec, selector_of, service, service_port, service_spec, target_by, target_port, template, template_metadata, template_spec, unless_empty}
+use Rattle.np_json.specs.Prelude.{GivesItem, Read, as_whole, labels, must_be_object, name, namespaced_name, optional, port, protocol_name, required, text, whole}
+use Rattle.np_model.specs.Prelude.{is_label, is_name, is_well_ingress, is_well_label, is_well_labels, is_well_port, is_well_ports, is_well_requirement, is_well_service, is_well_service_port, is_well_target, is_whole_word, is_word, option_all}
 use Rattle.np_json.specs.declared.fault.ReadFault.{ReadFault}
 use Rattle.np_json.proofs.ReadLemmas.{is_well_own}
-use Rattle.np_labels.specs.Selectors.{label_requirement}
-use Rattle.np_labels.specs.Labels.{with_pair, pair_of}
-use Rattle.np_objects.specs.Controllers.{controller, controller_spec, controller_metadata, replicated_spec, template_spec, job_template, cron_job_spec, no_spec, is_zero}
-use Rattle.np_objects.specs.Ingresses.{ingress}
-use Rattle.np_objects.specs.Labels.{label_map}
-use Rattle.np_objects.specs.Lists.{unless_empty}
-use Rattle.np_objects.specs.Namespaces.{namespace, namespace_metadata}
-use Rattle.np_objects.specs.Objects.{object_of, object_by, object_kind}
-use Rattle.np_objects.specs.Owners.{owner_reference, owner_of, names_owner}
-use Rattle.np_objects.specs.PodSpecs.{container, pod_spec}
-use Rattle.np_objects.specs.Pods.{pod, pod_metadata}
-use Rattle.np_objects.specs.Ports.{port_name, container_port, if_named}
-use Rattle.np_objects.specs.Services.{service, service_spec, service_port, target_port, target_by, by_number, by_name, selector_of, is_text}
-use Rattle.np_objects.specs.Templates.{template, template_metadata}
-use Rattle.np_model.specs.WellObjects.{option_all, is_well_label, is_well_labels, is_well_requirement, is_well_selector, is_well_port, is_well_ports, is_well_target, is_well_service_port, is_well_service, is_well_ingress}
-use Rattle.np_objects.specs.WellFormed.{is_well_owner, is_well_pod, is_well_namespace, is_well_template, is_well_controller, is_well_object, IsWellObject}
+use Rattle.np_labels.specs.Prelude.{label_requirement, pair_of, with_pair}
+use Rattle.np_model.specs.WellObjects.{is_well_selector}
 use Rattle.np_objects.specs.declared.kind.ObjectKind.TheVariants as kind
 use Rattle.np_objects.specs.declared.object.Object.TheVariants as object
 use Rattle.np_objects.specs.declared.owner_reference.Dependent.TheVariants as dependent
-use Rattle.np_objects.proofs.ReadLemmas.{ReadsOnly, ReadsOnly-Ok, ReadsOnly-bind, ReadsOnly-after, ReadsOnly-then, ReadsOnly-required, ReadsOnly-optional, ReadsOnly-listed, ReadsOnly-name}
-use Rattle.np_objects.proofs.ReadLemmas.{ReadsOnly-word, ReadsOnly-labels, ReadsOnly-namespaced_name, unwrapped}
+use Rattle.np_objects.proofs.ReadLemmas.{ReadsOnly, ReadsOnly-Ok, ReadsOnly-bind, ReadsOnly-after, ReadsOnly-then, ReadsOnly-required, ReadsOnly-optional, ReadsOnly-listed, ReadsOnly-name, ReadsOnly-word, ReadsOnly-labels, ReadsOnly-namespaced_name, unwrapped}
 
 -- ---- lists
 

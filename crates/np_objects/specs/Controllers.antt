@@ -1,9 +1,7 @@
 -- Controllers of pods.
 use Rattle.std.specs.Prelude.{ℤ, pos, ◌==◌, codes, Bool, false, Option, Some, None, unwrap_or, Ok}
 use Rattle.serde_json.specs.Data.{Data}
-use Rattle.np_json.specs.Meta.{namespaced_name}
-use Rattle.np_json.specs.Scalars.{whole}
-use Rattle.np_json.specs.Shapes.{Read, ◌>>=◌, ◌>>◌, must_be_object, optional, optional_or, required, listed}
+use Rattle.np_json.specs.Prelude.{Read, listed, must_be_object, namespaced_name, optional, optional_or, required, whole, ◌>>=◌, ◌>>◌}
 use Rattle.np_objects.specs.Owners.{owner_reference, owner_of}
 use Rattle.np_objects.specs.Templates.{template}
 use Rattle.np_objects.specs.Types.{ControllerItem, ControllerKind, ControllerMetadata, ControllerSpec, CronJob, DaemonSet, Job}

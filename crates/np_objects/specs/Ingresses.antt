@@ -3,10 +3,7 @@ use Rattle.std.specs.Prelude.{ℕ, ℤ, List, [], ◌∷◌, ◌++◌, length, c
 use Rattle.std.specs.List.{flat_map}
 use Rattle.std.specs.Option.{option_to_list}
 use Rattle.serde_json.specs.Data.{Data}
-use Rattle.np_json.specs.Members.{text_of, whole_of}
-use Rattle.np_json.specs.Meta.{namespaced_name}
-use Rattle.np_json.specs.Scalars.{text, port}
-use Rattle.np_json.specs.Shapes.{Read, ◌>>=◌, ◌>>◌, has_one_of, must_be_object, optional, optional_or, refuse_if, required, listed}
+use Rattle.np_json.specs.Prelude.{Read, has_one_of, listed, must_be_object, namespaced_name, optional, optional_or, port, refuse_if, required, text, text_of, whole_of, ◌>>=◌, ◌>>◌}
 use Rattle.np_objects.specs.Types.{BadField, Named, NamespacedName, Number, PortName}
 use Rattle.np_json.specs.declared.field.Field.{Field}
 use Rattle.np_json.specs.declared.field.Field.TheVariants.{Missing, Wrong, Given}

@@ -1,6 +1,3 @@
-pub use Rattle.np_json.specs.Meta
-pub use Rattle.np_json.specs.Scalars
-pub use Rattle.np_json.specs.Shapes
 pub mod ControllerKinds
 pub mod Controllers
 pub mod Ingresses
@@ -10,11 +7,15 @@ pub mod Namespaces
 pub mod Objects
 pub mod OwnerLaws
 pub mod Owners
-pub mod PodSpecs
 pub mod Pods
+pub mod PodSpecs
 pub mod Ports
+pub mod Prelude
 pub mod Services
 pub mod Statuses
 pub mod Templates
 pub mod Types
 pub mod WellFormed
+pub use Rattle.np_json.specs.Meta
+pub use Rattle.np_json.specs.Scalars
+pub use Rattle.np_json.specs.Shapes

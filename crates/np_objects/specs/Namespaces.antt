@@ -1,8 +1,7 @@
 -- Namespaces.
 use Rattle.std.specs.Prelude.{[], codes, unwrap_or, Ok}
 use Rattle.serde_json.specs.Data.{Data}
-use Rattle.np_json.specs.Scalars.{name}
-use Rattle.np_json.specs.Shapes.{Read, ◌>>=◌, ◌>>◌, must_be_object, optional, required}
+use Rattle.np_json.specs.Prelude.{Read, must_be_object, name, optional, required, ◌>>=◌, ◌>>◌}
 use Rattle.np_objects.specs.Labels.{label_map}
 use Rattle.np_objects.specs.Types.{NamespaceItem}
 

@@ -1,7 +1,7 @@
 -- Owner references that count, in words.
 use Rattle.std.specs.Prelude.{◌≡◌, ◌≢◌, ℕ, List, codes, true, Option, Ok}
 use Rattle.serde_json.specs.Data.{Data}
-use Rattle.np_json.specs.Shapes.{Read, listed, required}
+use Rattle.np_json.specs.Prelude.{Read, listed, required}
 use Rattle.np_objects.specs.ControllerKinds.{kind_name}
 use Rattle.np_objects.specs.Owners.{owner_reference, owner_of}
 use Rattle.np_objects.specs.Types.{Controller, ControllerKind, Dependent, OwnerRef, OwnerReference, Pod}

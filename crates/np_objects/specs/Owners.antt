@@ -2,8 +2,7 @@
 use Rattle.std.specs.Prelude.{ℕ, List, codes, Bool, not, ◌&&◌, Option, option_map, find, unwrap_or, Ok, false}
 use Rattle.std.specs.Str.{bytes_eq}
 use Rattle.serde_json.specs.Data.{Data}
-use Rattle.np_json.specs.Scalars.{name, flag}
-use Rattle.np_json.specs.Shapes.{Read, ◌>>=◌, ◌>>◌, must_be_object, optional, required}
+use Rattle.np_json.specs.Prelude.{Read, flag, must_be_object, name, optional, required, ◌>>=◌, ◌>>◌}
 use Rattle.np_objects.specs.ControllerKinds.{is_controller_kind}
 use Rattle.np_objects.specs.Types.{Controller, Dependent, OwnerRef, OwnerReference, Pod}
 

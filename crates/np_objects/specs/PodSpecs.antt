@@ -2,8 +2,7 @@
 use Rattle.std.specs.Prelude.{List, codes, false, unwrap_or, Ok}
 use Rattle.std.specs.List.{filter_map, flat_map}
 use Rattle.serde_json.specs.Data.{Data}
-use Rattle.np_json.specs.Scalars.{flag}
-use Rattle.np_json.specs.Shapes.{Read, ◌>>=◌, ◌>>◌, must_be_object, optional, listed}
+use Rattle.np_json.specs.Prelude.{Read, flag, listed, must_be_object, optional, ◌>>=◌, ◌>>◌}
 use Rattle.np_objects.specs.Ports.{container_port}
 use Rattle.np_objects.specs.Types.{NamedPort, PodSpec}
 

@@ -1,8 +1,7 @@
 -- Pods.
 use Rattle.std.specs.Prelude.{[], codes, unwrap_or, Ok}
 use Rattle.serde_json.specs.Data.{Data}
-use Rattle.np_json.specs.Meta.{namespaced_name}
-use Rattle.np_json.specs.Shapes.{Read, ◌>>=◌, optional, required, listed}
+use Rattle.np_json.specs.Prelude.{Read, listed, namespaced_name, optional, required, ◌>>=◌}
 use Rattle.np_objects.specs.Labels.{label_map}
 use Rattle.np_objects.specs.Owners.{owner_reference, owner_of}
 use Rattle.np_objects.specs.PodSpecs.{pod_spec}

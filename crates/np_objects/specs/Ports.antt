@@ -3,8 +3,7 @@ use Rattle.std.specs.Prelude.{ℕ, List, codes, Option, Some, None, unwrap_or, O
 use Rattle.std.specs.Option.{option_flatten}
 use Rattle.serde_json.specs.Data.{Data}
 use Rattle.np_objects.specs.Types.{NamedPort, Proto, Tcp}
-use Rattle.np_json.specs.Scalars.{word, port, protocol_name}
-use Rattle.np_json.specs.Shapes.{Read, ◌>>=◌, ◌>>◌, must_be_object, optional, required}
+use Rattle.np_json.specs.Prelude.{Read, must_be_object, optional, port, protocol_name, required, word, ◌>>=◌, ◌>>◌}
 use Rattle.np_objects.specs.Lists.{unless_empty}
 
 -- a word; the empty text counts as missing

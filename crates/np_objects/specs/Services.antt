@@ -4,11 +4,8 @@ use Rattle.std.specs.Option.{option_flatten, option_map_or}
 use Rattle.std.specs.Str.{bytes_eq}
 use Rattle.serde_json.specs.Data.{Data}
 use Rattle.np_objects.specs.Types.{Named, NamespacedName, Number, PortName, ServiceSpec, Tcp}
-use Rattle.np_json.specs.Members.{as_whole}
-use Rattle.np_json.specs.Meta.{namespaced_name}
-use Rattle.np_json.specs.Scalars.{text, port, port_number, protocol_name, labels}
-use Rattle.np_json.specs.Shapes.{Read, ◌>>=◌, ◌>>◌, must_be_object, optional, required, listed}
-use Rattle.np_labels.specs.Selectors.{label_requirement}
+use Rattle.np_json.specs.Prelude.{Read, as_whole, labels, listed, must_be_object, namespaced_name, optional, port, port_number, protocol_name, required, text, ◌>>=◌, ◌>>◌}
+use Rattle.np_labels.specs.Prelude.{label_requirement}
 use Rattle.np_labels.specs.declared.selector.Selector.{Selector}
 use Rattle.np_objects.specs.Controllers.{is_zero}
 use Rattle.np_objects.specs.Ports.{port_name}

@@ -4,10 +4,9 @@ use Rattle.std.specs.List.{list_any}
 use Rattle.std.specs.Option.{option_flatten, option_map_or}
 use Rattle.std.specs.Str.{bytes_eq}
 use Rattle.serde_json.specs.Data.{Data}
-use Rattle.np_addr.specs.AddressGrammar.{address_of}
+use Rattle.np_addr.specs.Prelude.{address_of}
 use Rattle.np_objects.specs.Types.{Address, BadAddress, Four, PodStatus, Six}
-use Rattle.np_json.specs.Scalars.{text}
-use Rattle.np_json.specs.Shapes.{Read, ◌>>=◌, ◌>>◌, given, must_be_object, optional, listed, or_refuse}
+use Rattle.np_json.specs.Prelude.{Read, given, listed, must_be_object, optional, or_refuse, text, ◌>>=◌, ◌>>◌}
 use Rattle.np_objects.specs.Lists.{unless_empty}
 
 -- the address of a text, and none of the empty text

@@ -1,7 +1,7 @@
 -- Templates of pods.
 use Rattle.std.specs.Prelude.{List, [], codes, unwrap_or, Ok}
 use Rattle.serde_json.specs.Data.{Data}
-use Rattle.np_json.specs.Shapes.{Read, ◌>>=◌, ◌>>◌, must_be_object, optional, optional_or, required}
+use Rattle.np_json.specs.Prelude.{Read, must_be_object, optional, optional_or, required, ◌>>=◌, ◌>>◌}
 use Rattle.np_objects.specs.Types.{Pair, Template}
 use Rattle.np_objects.specs.Labels.{label_map}
 use Rattle.np_objects.specs.PodSpecs.{pod_spec}

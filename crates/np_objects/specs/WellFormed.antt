@@ -1,8 +1,7 @@
 -- Objects that have no names and labels but such as reading lets through: words of letters, digits and the marks `-_./:`; names
 -- are not empty and have no `/`.
 use Rattle.std.specs.Prelude.{Bool, true, IsTrue, ◌&&◌}
-use Rattle.np_model.specs.WellObjects.{is_well_ingress, is_well_labels, is_well_ports, is_well_service, option_all}
-use Rattle.np_model.specs.Words.{is_name}
+use Rattle.np_model.specs.Prelude.{is_name, is_well_ingress, is_well_labels, is_well_ports, is_well_service, option_all}
 use Rattle.np_objects.specs.Types.{ControllerItem, NamespaceItem, Object, OwnerRef, PodItem, Template}
 use Rattle.np_objects.specs.declared.object.Object.TheVariants as object
 

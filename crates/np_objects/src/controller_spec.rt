@@ -1,6 +1,6 @@
 //! Specs of controllers.
 ghost use Rattle.std.specs.Prelude.{◌≡◌};
-ghost use Rattle.np_json.specs.Shapes.{Gives};
+ghost use Rattle.np_json.specs.Prelude.{Gives};
 ghost use Rattle.serde_json.specs.View.{view};
 ghost use Rattle.np_objects.specs.Controllers as controllers;
 

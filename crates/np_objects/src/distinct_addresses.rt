@@ -1,7 +1,7 @@
 //! Addresses, each once.
 ghost use Rattle.std.specs.Prelude.{◌≡◌, ◌∷◌, IfOk, OnOk};
 ghost use Rattle.np_objects.specs.Statuses as statuses;
-ghost use Rattle.np_objects.specs.Statuses.{HaveSame};
+ghost use Rattle.np_objects.specs.Prelude.{HaveSame};
 
 use np_addr::Address;
 use np_base::{NoMemory, Seq};

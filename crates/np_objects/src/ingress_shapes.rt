@@ -1,8 +1,7 @@
 //! How ingresses and their backends are read.
 ghost use Rattle.std.specs.Prelude.{◌≡◌, codes};
 ghost use Rattle.serde_json.specs.View.{view};
-ghost use Rattle.np_json.specs.Members.{text_of, whole_of};
-ghost use Rattle.np_json.specs.Shapes.{Gives};
+ghost use Rattle.np_json.specs.Prelude.{Gives, text_of, whole_of};
 ghost use Rattle.np_objects.specs.Ingresses as ingresses;
 
 use crate::lists::{joined, put_first};

@@ -1,5 +1,5 @@
 //! Maps of labels.
-ghost use Rattle.np_labels.specs.Labels.{pair_of};
+ghost use Rattle.np_labels.specs.Prelude.{pair_of};
 ghost use Rattle.std.specs.Prelude.{◌≡◌, [], IfOk, map};
 
 use np_base::{NoMemory, Seq, Text};

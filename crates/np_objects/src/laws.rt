@@ -1,10 +1,7 @@
 //! Laws of what is read, in the words of the Kubernetes API reference.
 ghost use Rattle.std.specs.Prelude.{◌≡◌, ◌↔◌, List, ◌∷◌, ◌++◌, All, Some, None, Ok};
 ghost use Rattle.serde_json.specs.Data.{Data};
-ghost use Rattle.np_objects.specs.Controllers.{controller};
-ghost use Rattle.np_objects.specs.OwnerLaws.{IsOwnerIn, NamesOwner};
-ghost use Rattle.np_objects.specs.Owners.{owner_of};
-ghost use Rattle.np_objects.specs.Pods.{pod};
+ghost use Rattle.np_objects.specs.Prelude.{IsOwnerIn, NamesOwner, controller, owner_of, pod};
 ghost use Rattle.np_objects.specs.declared.controller.ControllerItem.{ControllerItem};
 ghost use Rattle.np_objects.specs.declared.controller.ControllerKind.{ControllerKind};
 ghost use Rattle.np_objects.specs.declared.owner_reference.Dependent.{Dependent};

@@ -1,7 +1,7 @@
 //! How an object of any kind is read.
 ghost use Rattle.std.specs.Prelude.{IfOk};
 ghost use Rattle.serde_json.specs.View.{view};
-ghost use Rattle.np_json.specs.Shapes.{Gives, GivesItem};
+ghost use Rattle.np_json.specs.Prelude.{Gives, GivesItem};
 ghost use Rattle.np_objects.specs.Objects as objects;
 ghost use Rattle.np_objects.specs.WellFormed.{IsWellObject};
 

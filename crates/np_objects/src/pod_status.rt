@@ -1,6 +1,6 @@
 //! Statuses of pods.
 ghost use Rattle.std.specs.Prelude.{◌≡◌};
-ghost use Rattle.np_json.specs.Shapes.{Gives};
+ghost use Rattle.np_json.specs.Prelude.{Gives};
 ghost use Rattle.np_objects.specs.Statuses as statuses;
 ghost use Rattle.np_objects.specs.Lists as lists;
 

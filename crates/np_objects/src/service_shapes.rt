@@ -1,7 +1,7 @@
 //! How services and their ports are read.
 ghost use Rattle.std.specs.Prelude.{◌≡◌};
 ghost use Rattle.serde_json.specs.View.{view};
-ghost use Rattle.np_json.specs.Shapes.{Gives};
+ghost use Rattle.np_json.specs.Prelude.{Gives};
 ghost use Rattle.np_objects.specs.Services as services;
 
 use crate::controller_spec::is_zero;

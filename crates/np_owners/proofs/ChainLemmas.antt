@@ -8,11 +8,8 @@ use Rattle.std.proofs.lemmas.List.{get_or-map, length-map, take_more, map-append
 use Rattle.std.proofs.lemmas.List.Quantifiers.{position-Some}
 use Rattle.std.proofs.lemmas.Option.{option_and_then_some, slice_get_read}
 use Rattle.std.proofs.lemmas.Simd.{map-map}
-use Rattle.np_owners.specs.Chains.{IsChains, first_cycle, top, places}
-use Rattle.np_owners.specs.Types.{Item, ObjectName, Owner, OwnerRef}
-use Rattle.np_owners.specs.Names.{name_of, is_named, place_of}
-use Rattle.np_owners.specs.Owners.{owner_of, controller_place, place_in_namespace, owner_place, ups, full_name_of, first_in_cycle, last_owner, top_owners}
-use Rattle.np_objects.specs.ControllerKinds.{is_controller_kind}
+use Rattle.np_owners.specs.Prelude.{IsChains, Item, ObjectName, Owner, OwnerRef, controller_place, first_cycle, first_in_cycle, full_name_of, is_named, last_owner, name_of, owner_of, owner_place, place_in_namespace, place_of, places, top, top_owners, ups}
+use Rattle.np_objects.specs.Prelude.{is_controller_kind}
 
 -- ---- what owns an item is an item
 

@@ -8,7 +8,7 @@ use Rattle.std.proofs.lemmas.List.{same_lists, get_or_default}
 use Rattle.std.proofs.lemmas.List.Folds.{list_any-append}
 use Rattle.std.proofs.lemmas.List.FromFn.{length-map-range_with_len, get_or-map-range_with_len}
 use Rattle.np_base.proofs.Lists.{range-more}
-use Rattle.np_owners.specs.Chains.{places, is_marked, is_at_or_over}
+use Rattle.np_owners.specs.Prelude.{is_at_or_over, is_marked, places}
 
 -- one place more passes or not
 any_more : (test : ℕ → Bool) (n : ℕ) → list_any test (range_with_len 0 (n + 1)) ≡ (list_any test (range_with_len 0 n) || test n)

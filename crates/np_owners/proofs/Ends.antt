@@ -7,7 +7,7 @@ use Rattle.std.proofs.Math.Numerals.{suc-eq-add-one}
 use Rattle.std.proofs.Math.Nat.{zero-add, suc-add, eq-or-lt_of_le}
 use Rattle.std.proofs.lemmas.Bool.{cases_order}
 use Rattle.std.proofs.lemmas.Option.{none-some}
-use Rattle.np_owners.specs.Chains.{IsChains, up, chain, last_of, top, owns_itself, first_cycle}
+use Rattle.np_owners.specs.Prelude.{IsChains, chain, first_cycle, last_of, owns_itself, top, up}
 use Rattle.np_owners.proofs.Pigeonhole.{pigeonhole}
 use Rattle.np_owners.proofs.Walks.{up_within, chain_some, chain_none}
 

@@ -5,10 +5,7 @@ use Rattle.std.proofs.Math.Nat.{zero-add}
 use Rattle.std.proofs.lemmas.List.{get_or-map, length-map}
 use Rattle.std.proofs.lemmas.List.FromFn.{length-map-range_with_len, get_or-map-range_with_len}
 use Rattle.std.proofs.lemmas.Option.{slice_get_read}
-use Rattle.np_owners.specs.Chains.{up, is_over_some, places}
-use Rattle.np_owners.specs.Types.{Item}
-use Rattle.np_owners.specs.Owners.{owner_place, ups}
-use Rattle.np_owners.specs.MadePods.{is_pod, has_pods, wants_pods, makes_pod}
+use Rattle.np_owners.specs.Prelude.{Item, has_pods, is_over_some, is_pod, makes_pod, owner_place, places, up, ups, wants_pods}
 
 none_is : (o : Option ℕ) → not (is_some o) ≡ is_none o
 none_is None = refl

@@ -9,8 +9,7 @@ use Rattle.std.proofs.lemmas.Iterator.Adapters.{position_from-zero}
 use Rattle.std.proofs.lemmas.Map.Text.{is_eq-slice_cmp}
 use Rattle.np_base.proofs.Lists.{position_from-push}
 use Rattle.np_base.proofs.Options.{option_or-none}
-use Rattle.np_owners.specs.Types.{Item, ObjectName}
-use Rattle.np_owners.specs.Names.{name_of, same_name, is_named, place_of, compare_names, noted_place, HoldsPlaces}
+use Rattle.np_owners.specs.Prelude.{HoldsPlaces, Item, ObjectName, compare_names, is_named, name_of, noted_place, place_of, same_name}
 
 -- ---- names
 

@@ -5,7 +5,7 @@ use Rattle.std.proofs.Math.Bool.{or_assoc, or-false, or-true}
 use Rattle.std.proofs.lemmas.Bool.Decides.{eqb_tells}
 use Rattle.std.proofs.lemmas.List.{get_or-set_same, get_or-set_other}
 use Rattle.std.proofs.lemmas.Option.{slice_get-get_or}
-use Rattle.np_owners.specs.Chains.{IsChains, up, chain, is_marked}
+use Rattle.np_owners.specs.Prelude.{IsChains, chain, is_marked, up}
 
 -- what is read at a place of the list stands over it
 pub up_at : (ups : List (Option ℕ)) (place : ℕ) (d : Option ℕ) → place < length ups → up ups place ≡ get_or ups place d

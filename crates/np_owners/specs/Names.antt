@@ -9,7 +9,7 @@ use Rattle.std.specs.Str.{bytes_eq}
 use Rattle.std.specs.declared.cmp.Ordering.{Ordering}
 use Rattle.np_owners.specs.Types.{Item, ObjectName}
 use Rattle.np_items.specs.declared.item.Item.TheVariants as item
-use Rattle.np_objects.specs.ControllerKinds.{kind_name}
+use Rattle.np_objects.specs.Prelude.{kind_name}
 use Rattle.np_objects.specs.declared.object.Object.{Object}
 use Rattle.np_objects.specs.declared.object.Object.TheVariants as object
 use Rattle.np_owners.specs.declared.fault.PlacesFault.{PlacesFault}

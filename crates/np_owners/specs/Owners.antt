@@ -5,7 +5,7 @@ use Rattle.std.specs.Option.{option_and_then, option_map, option_map_or, option_
 use Rattle.np_owners.specs.Chains.{first_cycle, top}
 use Rattle.np_owners.specs.Types.{Item, ObjectName, Owner, OwnerRef}
 use Rattle.np_items.specs.declared.item.Item.TheVariants as item
-use Rattle.np_objects.specs.ControllerKinds.{is_controller_kind}
+use Rattle.np_objects.specs.Prelude.{is_controller_kind}
 use Rattle.np_objects.specs.declared.object.Object.TheVariants as object
 use Rattle.np_owners.specs.Names.{name_of, place_of}
 use Rattle.np_owners.specs.declared.fault.ChainsFault.{ChainsFault}

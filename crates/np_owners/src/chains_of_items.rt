@@ -1,6 +1,6 @@
 //! The chains of owners of the items of a list.
 ghost use Rattle.std.specs.Prelude.{◌≡◌, ◌≤◌, List, None, length, IfErr, IfOk, OnOk};
-ghost use Rattle.np_owners.specs.Names.{HoldsPlaces};
+ghost use Rattle.np_owners.specs.Prelude.{HoldsPlaces};
 ghost use Rattle.np_items.specs.declared.item.Item.{Item};
 ghost use Rattle.np_owners.specs.Owners as owners;
 

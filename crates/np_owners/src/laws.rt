@@ -1,6 +1,6 @@
 //! What follows from the definitions of chains.
 ghost use Rattle.std.specs.Prelude.{◌≡◌, ◌<◌, List, Option, Some, None, ℕ, length};
-ghost use Rattle.np_owners.specs.Chains.{IsChains, up, top, first_cycle};
+ghost use Rattle.np_owners.specs.Prelude.{IsChains, first_cycle, top, up};
 
 /// Where no place owns itself, each chain ends at a top that nothing stands over.
 pub fn chains_end()

@@ -1,7 +1,7 @@
 //! Which controllers stand for a pod of their template.
 ghost use Rattle.std.specs.Prelude.{◌≡◌, map, ◌&&◌, not, IfOk};
 ghost use Rattle.np_owners.specs.MadePods as spec;
-ghost use Rattle.np_owners.specs.Owners.{ups};
+ghost use Rattle.np_owners.specs.Prelude.{ups};
 
 use crate::chains::Chains;
 use np_base::NoMemory;

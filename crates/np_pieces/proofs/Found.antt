@@ -2,10 +2,7 @@
 use Rattle.std.proofs.Common.{◌≡◌, ℕ, ◌+◌, ◌<◌, ◌≤◌, List, [], ◌∷◌, Option, Some, None, is_some, Bool, true, zero, suc, length, get_or, drop, sym, ◌∙◌, ap, arith}
 use Rattle.std.proofs.lemmas.Bool.{true≢false}
 use Rattle.np_base.proofs.Lists.{drop-ended}
-use Rattle.np_pieces.specs.Types.{At, Piece}
-use Rattle.np_pieces.specs.Laws.{value_at-some}
-use Rattle.np_pieces.specs.Pieces.{value_at, has_spot, ArePieces, Covers}
-use Rattle.np_pieces.specs.Values.{value_at-first, value_at-rest}
+use Rattle.np_pieces.specs.Prelude.{ArePieces, At, Covers, Piece, has_spot, value_at, value_at-first, value_at-rest, value_at-some}
 
 -- a number of the space is not past all pieces
 pub not_past_all : {P S : Type 0} (number_of : P → ℕ) (IsWell : S → Type 0) (low high : ℕ) (pieces : List (Piece P S)) (index n : ℕ) → Covers number_of IsWell low high pieces → low ≤ n → n ≤ high →

@@ -2,10 +2,7 @@
 use Rattle.std.proofs.Common.{◌≡◌, ◌≢◌, ℕ, ◌+◌, ◌<◌, ◌≤◌, List, [], ◌∷◌, ◌++◌, Option, Some, None, Bool, true, false, not, cond, refl, sym, ◌∙◌, ap, arith}
 use Rattle.std.proofs.lemmas.Bool.{le-leb}
 use Rattle.np_base.proofs.Bools.{not_itself}
-use Rattle.np_pieces.specs.Types.{Piece}
-use Rattle.np_pieces.specs.Pieces.{is_in, value_at, ArePieces}
-use Rattle.np_pieces.specs.Steps.{IsWith}
-use Rattle.np_pieces.specs.Values.{is_in-inside, is_in-before, value_at-past}
+use Rattle.np_pieces.specs.Prelude.{ArePieces, IsWith, Piece, is_in, is_in-before, is_in-inside, value_at, value_at-past}
 
 -- one more piece changes nothing before it
 value_at-push_before : {P S : Type 0} (number_of : P → ℕ) (pieces : List (Piece P S)) (next : Piece P S) (n : ℕ) → n < number_of next.lo →

@@ -1,10 +1,7 @@
 -- Steps of one pass over two lists of pieces. For `take_overlap`.
 use Rattle.std.proofs.Common.{◌≡◌, ℕ, ◌+◌, ◌<◌, ◌≤◌, min, max, List, [], ◌∷◌, length, Option, Some, arith, inl, inr}
 use Rattle.std.proofs.lemmas.Bool.{cases_lt, cases_order}
-use Rattle.np_pieces.specs.Types.{Piece}
-use Rattle.np_pieces.specs.Pieces.{value_at, ArePieces}
-use Rattle.np_pieces.specs.Steps.{AreBothAt, GoOn, IsOverlap}
-use Rattle.np_pieces.specs.Values.{value_at-first, value_at-rest, ArePieces-ordered}
+use Rattle.np_pieces.specs.Prelude.{AreBothAt, ArePieces, ArePieces-ordered, GoOn, IsOverlap, Piece, value_at, value_at-first, value_at-rest}
 
 -- two lists that begin at one number go on from there
 pub GoOn-both : {P S : Type 0} (number_of : P → ℕ) (IsWell : S → Type 0) (from to : ℕ) (before before' : Option S) (left right : List (Piece P S)) → ArePieces number_of IsWell from to before left →

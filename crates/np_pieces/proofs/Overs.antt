@@ -5,10 +5,7 @@ use Rattle.np_base.specs.Ranges.{holds, IsAscending}
 use Rattle.np_base.specs.declared.range.Range.{Range}
 use Rattle.np_base.proofs.Ranges.{is_within-inside, is_within-past, holds-before, IsAscending-earlier}
 use Rattle.np_sets.specs.Space.{is_between}
-use Rattle.np_pieces.specs.Types.{At, Piece}
-use Rattle.np_pieces.specs.Pieces.{value_at, has_spot, ArePieces, Covers}
-use Rattle.np_pieces.specs.Steps.{GrowsTo}
-use Rattle.np_pieces.specs.Values.{value_at-before, value_at-past}
+use Rattle.np_pieces.specs.Prelude.{ArePieces, At, Covers, GrowsTo, Piece, has_spot, value_at, value_at-before, value_at-past}
 
 -- the value at a number: the first in the ranges, the second elsewhere
 abbrev pub chosen : {P S : Type 0} → (P → ℕ) → S → S → List (Range P) → ℕ → S

@@ -1,10 +1,7 @@
 -- Lists of pieces with the same values, and with others. For `same_pieces`.
 use Rattle.std.proofs.Common.{◌≡◌, ℕ, ◌+◌, ◌<◌, ◌≤◌, List, None, Bool, not, sym, ◌∙◌, ap, arith, inl, inr}
 use Rattle.std.proofs.lemmas.Bool.{cases_lt}
-use Rattle.np_pieces.specs.Types.{At, Piece}
-use Rattle.np_pieces.specs.Laws.{same_values_same_pieces}
-use Rattle.np_pieces.specs.Pieces.{value_at, has_spot, Covers}
-use Rattle.np_pieces.specs.Steps.{IsShared}
+use Rattle.np_pieces.specs.Prelude.{At, Covers, IsShared, Piece, has_spot, same_values_same_pieces, value_at}
 use Rattle.np_pieces.proofs.Walks.{IsWalked}
 
 -- two lists have the same values before a number

@@ -1,12 +1,8 @@
 -- One pass over two lists of pieces. For `combine_pieces` and `same_pieces`.
 use Rattle.std.proofs.Common.{◌≡◌, ℕ, ◌+◌, ◌<◌, ◌≤◌, List, [], None, Bool, false, refl, sym, ◌∙◌, arith, inl, inr}
 use Rattle.std.proofs.lemmas.Bool.{cases_lt}
-use Rattle.np_pieces.specs.Types.{Join, Meet, Minus, Operation, Piece}
-use Rattle.np_pieces.specs.Operations.{holds_after}
-use Rattle.np_pieces.specs.Pieces.{value_at, has_at, ArePieces, Covers}
-use Rattle.np_pieces.specs.Steps.{GoOn, IsShared, GrowsTo}
+use Rattle.np_pieces.specs.Prelude.{ArePieces, Covers, GoOn, GrowsTo, IsShared, Join, Meet, Minus, Operation, Piece, has_at, holds_after, value_at, value_at-before, value_at-past}
 use Rattle.np_pieces.proofs.Overlaps.{GoOn-both}
-use Rattle.np_pieces.specs.Values.{value_at-before, value_at-past}
 
 -- The rests of two lists go on from the number `from`, and have the lists' values from there.
 pub record IsWalked {P S : Type 0} (number_of : P → ℕ) (IsWell : S → Type 0) (from to : ℕ) (all_left all_right left right : List (Piece P S)) : Type 0 where

@@ -1,8 +1,9 @@
-pub use Rattle.np_base.specs.Ranges
-pub use Rattle.np_sets.specs.Space
 pub mod Laws
 pub mod Operations
 pub mod Pieces
+pub mod Prelude
 pub mod Steps
 pub mod Types
 pub mod Values
+pub use Rattle.np_base.specs.Ranges
+pub use Rattle.np_sets.specs.Space

@@ -1,6 +1,6 @@
 //! Lists of pieces that grow at the end.
 ghost use Rattle.std.specs.Prelude.{◌≡◌, ◌++◌, ◌∷◌, [], IfOk, OnOk};
-ghost use Rattle.np_pieces.specs.Steps.{IsWith};
+ghost use Rattle.np_pieces.specs.Prelude.{IsWith};
 
 use crate::piece::Piece;
 use np_base::{Cells, NoMemory, Point};

@@ -1,7 +1,6 @@
 //! An operation on the values of two lists of pieces, at each point.
 ghost use Rattle.std.specs.Prelude.{ℕ, ◌≡◌, IfOk};
-ghost use Rattle.np_pieces.specs.Operations.{holds_after};
-ghost use Rattle.np_pieces.specs.Pieces.{has_at, Covers};
+ghost use Rattle.np_pieces.specs.Prelude.{Covers, has_at, holds_after};
 
 use crate::append::append;
 use crate::operation::{Operation, combine};

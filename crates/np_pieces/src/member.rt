@@ -1,6 +1,6 @@
 //! The values in lists of pieces.
 ghost use Rattle.std.specs.Prelude.{◌≡◌, ◌≤◌, true, false, Some, MatchBool, IfOk};
-ghost use Rattle.np_pieces.specs.Pieces.{is_in, value_at, has_spot, Covers};
+ghost use Rattle.np_pieces.specs.Prelude.{Covers, has_spot, is_in, value_at};
 ghost use Rattle.np_pieces.specs.declared.piece.At.{At};
 
 use crate::piece::Piece;

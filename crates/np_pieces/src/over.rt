@@ -1,8 +1,7 @@
 //! Lists of pieces of one value, and of one value inside a set and another outside it.
 ghost use Rattle.std.specs.Prelude.{ℕ, ◌≡◌, ◌≤◌, ◌+◌, [], ◌∷◌, Some, if◌then◌else◌, IfOk, OnOk};
 ghost use Rattle.np_base.specs.Ranges.{holds, IsAscending};
-ghost use Rattle.np_pieces.specs.Pieces.{value_at, Covers};
-ghost use Rattle.np_pieces.specs.Steps.{GrowsTo};
+ghost use Rattle.np_pieces.specs.Prelude.{Covers, GrowsTo, value_at};
 
 use crate::append::append;
 use crate::piece::Piece;

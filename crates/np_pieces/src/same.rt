@@ -1,6 +1,6 @@
 //! Whether two lists have the same pieces.
 ghost use Rattle.std.specs.Prelude.{◌≡◌, not, MatchBool};
-ghost use Rattle.np_pieces.specs.Pieces.{has_spot, Covers};
+ghost use Rattle.np_pieces.specs.Prelude.{Covers, has_spot};
 ghost use Rattle.np_pieces.specs.declared.piece.At.{At};
 
 use crate::overlap::take_overlap;

@@ -4,14 +4,11 @@ use Rattle.serde_json.specs.Data.{Data}
 use Rattle.serde_json.specs.Find.{as_str}
 use Rattle.np_addr.proofs.BlockLemmas.{rest_of_cleared}
 use Rattle.np_addr.proofs.GrammarLemmas.{cidr_text_iff}
-use Rattle.np_addr.specs.AddressGrammar.{block_of, cidr_of}
-use Rattle.np_addr.specs.Addresses.{family_of, width_of, IsCidr}
+use Rattle.np_addr.specs.Prelude.{IsCidr, block_of, cidr_of, family_of, width_of}
 use Rattle.np_addr.specs.declared.address.Address.{Address}
 use Rattle.np_addr.specs.declared.address.Address.TheVariants.{Four, Six}
-use Rattle.np_policies.specs.Types.{BadCidr, Cidr}
-use Rattle.np_json.specs.Scalars.{of_type}
-use Rattle.np_json.specs.Shapes.{◌>>=◌, or_refuse}
-use Rattle.np_policies.specs.Blocks.{cidr}
+use Rattle.np_policies.specs.Prelude.{BadCidr, Cidr, cidr}
+use Rattle.np_json.specs.Prelude.{of_type, or_refuse, ◌>>=◌}
 
 block_of-well : (address : Address) (len : ℕ) → len ≤ width_of (family_of address) → IsCidr (block_of address len)
 block_of-well (Four n) len within = (within, rest_of_cleared _ n)

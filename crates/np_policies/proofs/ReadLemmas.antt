@@ -3,11 +3,9 @@ use Rattle.std.proofs.Common.{◌≡◌, ℕ, ◌+◌, List, [], ◌∷◌, Bool
 use Rattle.std.specs.List.{list_all}
 use Rattle.serde_json.specs.Data.{Data, Items, no_items, item}
 use Rattle.serde_json.specs.Find.{as_array}
-use Rattle.np_json.specs.Members.{member_of}
-use Rattle.np_json.specs.Shapes.{Read, ◌>>=◌, ◌>>◌, each_item, given, list_by, listed, optional, or_refuse, read_member, refuse, required, under}
-use Rattle.np_policies.specs.Types.{BadField, FaultKind, Field, Item}
+use Rattle.np_json.specs.Prelude.{Read, each_item, given, list_by, listed, member_of, optional, or_refuse, read_member, refuse, required, under, ◌>>=◌, ◌>>◌}
+use Rattle.np_policies.specs.Prelude.{BadField, FaultKind, Field, Item, all_items, items_at}
 use Rattle.np_json.proofs.ReadLemmas.{under-output}
-use Rattle.np_policies.specs.Items.{all_items, items_at}
 
 -- what a line gave, and that the lines after it gave the output
 pub record IsRead {A B E : Type 0} (read : Result A E) (rest : A → Result B E) (output : B) : Type 0 where

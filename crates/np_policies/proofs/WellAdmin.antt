@@ -5,18 +5,12 @@ use Rattle.std.specs.Str.{bytes_eq}
 use Rattle.std.proofs.lemmas.Bool.{and_from}
 use Rattle.serde_json.specs.Data.{Data}
 use Rattle.np_json.specs.Scalars as scalars
-use Rattle.np_json.specs.Shapes.{◌>>=◌, ◌>>◌, has_member, has_one_of, listed, must_be_object, or_refuse, refuse, refuse_if, refuse_member_if, required}
-use Rattle.np_model.specs.Words.{is_name, direction_text}
-use Rattle.np_policies.specs.Types.{Action, AdminPeer, AdminPolicy, AdminRule, AdminSpec, Allow, BadAction, BadPriority, BasePolicy, Deny, Direction, DomainPeer, Egress, EmptyPeers, Ingress, NodePeer, Pass, PeerShape, Subject, AdminKind}
+use Rattle.np_json.specs.Prelude.{has_member, has_one_of, listed, must_be_object, or_refuse, refuse, refuse_if, refuse_member_if, required, ◌>>=◌, ◌>>◌}
+use Rattle.np_model.specs.Prelude.{direction_text, is_decision, is_name, is_well_admin_peer, is_well_admin_policy, is_well_admin_port, is_well_admin_rule, is_well_base_policy, is_well_cidr, is_well_subject}
+use Rattle.np_policies.specs.Prelude.{Action, AdminKind, AdminPeer, AdminPolicy, AdminRule, AdminSpec, Allow, BadAction, BadPriority, BasePolicy, Deny, Direction, DomainPeer, Egress, EmptyPeers, Ingress, NodePeer, Pass, PeerShape, Subject, action, action_named, admin_peer, admin_peers, admin_policy, admin_port, admin_rule, admin_rules, admin_spec, all_pods, base_name, base_policy, base_spec, cidr, egress_member, egress_peer, everything, ingress_peer, namespace_selector, networks, object_name, peers_member, pods_member, priority, priority_number, selector, some_pods, subject}
 use Rattle.np_policies.proofs.ReadLemmas.{bind-output, then-output, or_refuse-output}
 use Rattle.np_policies.proofs.WellLemmas.{unbroken_member-output, listed-well, required-well, selector-well, cidr_text-well, admin_port-well}
-use Rattle.np_policies.specs.AdminPolicies.{action, action_named, admin_peer, admin_peers, admin_policy, admin_rule, admin_rules, admin_spec, all_pods, base_name, base_policy, base_spec}
-use Rattle.np_policies.specs.AdminPolicies.{egress_member, egress_peer, ingress_peer, namespace_selector, networks, object_name, pods_member, priority, priority_number, some_pods, subject}
-use Rattle.np_policies.specs.Blocks.{cidr}
-use Rattle.np_policies.specs.NetworkPolicies.{peers_member}
-use Rattle.np_policies.specs.Ports.{admin_port}
-use Rattle.np_policies.specs.Selectors.{everything, selector}
-use Rattle.np_model.specs.WellPolicies.{is_decision, is_well_admin_peer, is_well_admin_policy, is_well_admin_port, is_well_admin_rule, is_well_base_policy, is_well_cidr, is_well_selector, is_well_subject}
+use Rattle.np_model.specs.WellPolicies.{is_well_selector}
 use Rattle.np_model.specs.declared.admin_policy.AdminPeer.TheVariants as peer
 use Rattle.np_policies.specs.declared.admin_rule_shape.AdminKind.TheVariants as tier
 use Rattle.np_policies.proofs.WellNetwork.{name-well}

@@ -6,27 +6,17 @@ use Rattle.std.specs.List.{list_all}
 use Rattle.std.proofs.lemmas.Bool.{not-false, and_from}
 use Rattle.serde_json.specs.Data.{Data, Items, no_items, item}
 use Rattle.serde_json.specs.Find.{as_object}
-use Rattle.np_addr.specs.Addresses.{IsCidr}
-use Rattle.np_addr.specs.Blocks.{first_bad_except}
-use Rattle.np_policies.specs.Types.{AdminPort, BadField, BadPort, BadSelector, Cidr, FaultKind, IpBlock, Name, NetPort, Number, Op, PortValue, Proto, Requirement, Selector}
+use Rattle.np_addr.specs.Prelude.{IsCidr, first_bad_except}
+use Rattle.np_policies.specs.Prelude.{AdminPort, BadField, BadPort, BadSelector, Cidr, FaultKind, IpBlock, Name, NetPort, Number, Op, PortValue, Proto, Requirement, Selector, admin_port, admin_port_member, all_items, cidr, end_port, expression, fitting, has_other, ip_block, items_at, key, may_end, named_port, net_port, net_port_by, number_of, one_port, op_named, port_name, port_range, port_value, port_value_by, protocol, refuse_except, selector}
 use Rattle.np_addr.specs.declared.cidr.Cidr.TheVariants.{Four, Six}
-use Rattle.np_json.specs.Members.{as_pairs, as_whole}
-use Rattle.np_model.specs.Words.{is_label, is_word, is_whole_word}
-use Rattle.np_json.specs.Scalars.{labels, of_type, port, port_number, text, word}
-use Rattle.np_json.specs.Shapes.{Read, ◌>>◌, has_member, has_one_of, listed, must_be_object, optional, refuse, refuse_if, refuse_member_if, required, under}
+use Rattle.np_json.specs.Prelude.{Read, as_pairs, as_whole, has_member, has_one_of, labels, listed, must_be_object, of_type, optional, port, port_number, refuse, refuse_if, refuse_member_if, required, text, under, word, ◌>>◌}
+use Rattle.np_model.specs.Prelude.{is_label, is_well_admin_port, is_well_block, is_well_cidr, is_well_net_port, is_whole_word, is_word, is_worded, option_all}
 use Rattle.np_labels.proofs.Distinct.{is_empty-distinct, list_all-distinct}
-use Rattle.np_labels.specs.DistinctAscends.{distinct-ascends}
-use Rattle.np_labels.specs.Selectors.{label_requirement, requirement_of}
-use Rattle.np_labels.specs.WellFormed.{fits, is_well_requirement}
+use Rattle.np_labels.specs.Prelude.{distinct-ascends, fits, is_well_requirement, label_requirement, requirement_of}
 use Rattle.np_policies.proofs.BlockLemmas.{cidr-well}
 use Rattle.np_policies.proofs.ReadLemmas.{bind-output, then-output, required-output, optional-output, listed-output, list_all-each_item}
-use Rattle.np_policies.specs.Blocks.{cidr, ip_block, refuse_except}
-use Rattle.np_policies.specs.Ports.{admin_port, admin_port_member, end_port, may_end, named_port, net_port, net_port_by, number_of, one_port, port_name, port_range, port_value, port_value_by, protocol}
-use Rattle.np_policies.specs.Items.{all_items, items_at}
-use Rattle.np_policies.specs.Selectors.{expression, fitting, has_other, key, op_named, selector}
-use Rattle.np_model.specs.WellPolicies.{is_well_admin_port, is_well_block, is_well_cidr, is_well_net_port, is_well_selector, is_worded}
+use Rattle.np_model.specs.WellPolicies.{is_well_selector}
 use Rattle.np_model.specs.declared.admin_policy.AdminPort.TheVariants as admin
-use Rattle.np_model.specs.WellObjects.{option_all}
 
 -- ---- tests
 

@@ -3,20 +3,14 @@ use Rattle.std.proofs.Common.{◌≡◌, ℕ, List, Bool, true, false, not, ◌&
 use Rattle.std.specs.List.{list_all}
 use Rattle.std.proofs.lemmas.Bool.{not-false, and_from}
 use Rattle.serde_json.specs.Data.{Data}
-use Rattle.np_json.specs.Meta.{namespace, namespaced_name, or_default}
+use Rattle.np_json.specs.Prelude.{listed, must_be_object, namespace, namespaced_name, optional, or_default, refuse_if, required, ◌>>◌}
 use Rattle.np_json.specs.Scalars as scalars
-use Rattle.np_json.specs.Shapes.{◌>>◌, listed, must_be_object, optional, refuse_if, required}
-use Rattle.np_model.specs.Words.{is_name, direction_text}
-use Rattle.np_policies.specs.Types.{BadName, Direction, Egress, Ingress, IpBlock, NamespacedName, NetPeer, NetPolicy, NetRule, NetSpec, PeerShape, Selector}
+use Rattle.np_model.specs.Prelude.{direction_text, is_name, is_well_block, is_well_net_peer, is_well_net_policy, is_well_net_port, is_well_net_rule, option_all}
+use Rattle.np_policies.specs.Prelude.{BadName, Direction, Egress, Ingress, IpBlock, NamespacedName, NetPeer, NetPolicy, NetRule, NetSpec, PeerShape, Selector, empty_spec, everything, has_direction, ip_block, is_misshapen, net_peer, net_peer_by, net_policy, net_policy_by, net_port, net_rule, net_rules, net_spec, peers_member, policy_type, rules_if, selector}
 use Rattle.np_json.proofs.ReadLemmas.{is_well_own}
 use Rattle.np_policies.proofs.ReadLemmas.{bind-output, then-output}
 use Rattle.np_policies.proofs.WellLemmas.{unbroken-output, listed-well, required-well, optional-well, selector-well, ip_block-well, net_port-well}
-use Rattle.np_policies.specs.Blocks.{ip_block}
-use Rattle.np_policies.specs.NetworkPolicies.{empty_spec, has_direction, is_misshapen, net_peer, net_peer_by, net_policy, net_policy_by, net_rule, net_rules, net_spec, peers_member, policy_type, rules_if}
-use Rattle.np_policies.specs.Ports.{net_port}
-use Rattle.np_policies.specs.Selectors.{everything, selector}
-use Rattle.np_model.specs.WellPolicies.{is_well_block, is_well_net_peer, is_well_net_policy, is_well_net_port, is_well_net_rule, is_well_selector}
-use Rattle.np_model.specs.WellObjects.{option_all}
+use Rattle.np_model.specs.WellPolicies.{is_well_selector}
 
 -- ---- names
 

@@ -1,17 +1,12 @@
 -- What is read of any policy is well formed. For `read_policy` and crates above.
 use Rattle.std.proofs.Common.{◌≡◌, ℕ, true, Option, Some, None, codes, Result, Ok, Err, IfOk, refl}
 use Rattle.serde_json.specs.Data.{Data}
-use Rattle.np_model.specs.WellObjects.{option_all}
-use Rattle.np_json.specs.Meta.{type_meta}
-use Rattle.np_json.specs.Shapes.{GivesItem, refuse}
-use Rattle.np_policies.specs.Types.{Admin, Base, Field, Foreign, ForeignPolicy, Net, NoPolicy, Policy, PolicyKind}
+use Rattle.np_model.specs.Prelude.{option_all}
+use Rattle.np_json.specs.Prelude.{GivesItem, refuse, type_meta}
+use Rattle.np_policies.specs.Prelude.{Admin, Base, Field, Foreign, ForeignPolicy, Net, NoPolicy, Policy, PolicyKind, admin_policy, base_policy, is_well_policy, net_policy, policy_by, policy_kind, policy_of}
 use Rattle.np_json.specs.declared.fault.ReadFault.{ReadFault}
 use Rattle.np_json.proofs.ReadLemmas.{under-output}
 use Rattle.np_policies.proofs.ReadLemmas.{bind-output}
-use Rattle.np_policies.specs.AdminPolicies.{admin_policy, base_policy}
-use Rattle.np_policies.specs.NetworkPolicies.{net_policy}
-use Rattle.np_policies.specs.Policies.{policy_kind, policy_by, policy_of}
-use Rattle.np_policies.specs.WellFormed.{is_well_policy}
 use Rattle.np_policies.specs.declared.policy.Policy.TheVariants as policy
 use Rattle.np_policies.proofs.WellNetwork.{net_policy-well}
 use Rattle.np_policies.proofs.WellAdmin.{admin_policy-well, base_policy-well}

@@ -4,15 +4,14 @@ use Rattle.std.specs.Prelude.{ℕ, ℤ, pos, negsuc, List, [], ◌∷◌, length
 use Rattle.std.specs.Map.{lookup}
 use Rattle.std.specs.Str.{bytes_eq}
 use Rattle.serde_json.specs.Data.{Data}
-use Rattle.np_json.specs.Scalars.{name, text, whole}
-use Rattle.np_json.specs.Shapes.{Read, ◌>>=◌, ◌>>◌, has_member, has_one_of, listed, must_be_object, or_refuse, refuse, refuse_if, refuse_member_if, required}
+use Rattle.np_json.specs.Prelude.{Read, has_member, has_one_of, listed, must_be_object, name, or_refuse, refuse, refuse_if, refuse_member_if, required, text, whole, ◌>>=◌, ◌>>◌}
 use Rattle.np_policies.specs.Types.{Action, AdminPeer, AdminPolicy, AdminRule, AdminSpec, Allow, BadAction, BadPriority, BaselineName, BasePolicy, Deny, Direction, DomainPeer, Egress, EmptyPeers, Ingress, Networks, NodePeer, Pass, PeerShape, Pods, Selector, Subject, AdminKind}
 use Rattle.np_policies.specs.Blocks.{cidr}
 use Rattle.np_policies.specs.NetworkPolicies.{peers_member}
 use Rattle.np_policies.specs.Ports.{admin_port}
 use Rattle.np_policies.specs.Selectors.{selector, everything}
 use Rattle.np_policies.specs.declared.admin_rule_shape.AdminKind.TheVariants.{Admin, Baseline}
-use Rattle.np_model.specs.Words.{direction_text}
+use Rattle.np_model.specs.Prelude.{direction_text}
 
 -- `namespaces` of a subject or peer: all pods of the namespaces that it selects
 unfoldable pub all_pods : Data → Read Subject

@@ -1,11 +1,9 @@
 -- Shapes of blocks of addresses (Kubernetes API reference, IPBlock).
 use Rattle.std.specs.Prelude.{ℕ, Option, Some, None, codes, Ok, ⊤}
 use Rattle.serde_json.specs.Data.{Data}
-use Rattle.np_addr.specs.AddressGrammar.{cidr_of}
-use Rattle.np_addr.specs.Blocks.{first_bad_except}
+use Rattle.np_addr.specs.Prelude.{cidr_of, first_bad_except}
 use Rattle.np_policies.specs.Types.{BadCidr, BadExcept, Cidr, Field, IpBlock, Item}
-use Rattle.np_json.specs.Scalars.{text}
-use Rattle.np_json.specs.Shapes.{Read, ◌>>=◌, ◌>>◌, listed, must_be_object, or_refuse, refuse, required, under}
+use Rattle.np_json.specs.Prelude.{Read, listed, must_be_object, or_refuse, refuse, required, text, under, ◌>>=◌, ◌>>◌}
 
 -- a text that writes a block of addresses, else BadCidr
 unfoldable pub cidr : Data → Read Cidr

@@ -2,7 +2,7 @@
 use Rattle.std.specs.Prelude.{ℕ, List, Bool, true, ◌&&◌, option_and_then, unwrap_or}
 use Rattle.serde_json.specs.Data.{Data, Items, no_items, item}
 use Rattle.serde_json.specs.Find.{as_array}
-use Rattle.np_json.specs.Members.{member_of}
+use Rattle.np_json.specs.Prelude.{member_of}
 
 -- whether each of the items passes a test
 abbrev pub all_items : (Data → Bool) → Items → Bool

@@ -4,6 +4,7 @@ pub mod Items
 pub mod NetworkPolicies
 pub mod Policies
 pub mod Ports
+pub mod Prelude
 pub mod Selectors
 pub mod Types
 pub mod WellFormed

@@ -4,15 +4,13 @@ use Rattle.std.specs.List.{list_any}
 use Rattle.std.specs.Map.{lookup}
 use Rattle.std.specs.Str.{bytes_eq}
 use Rattle.serde_json.specs.Data.{Data}
-use Rattle.np_json.specs.Meta.{namespaced_name}
-use Rattle.np_json.specs.Scalars.{of_type, text}
-use Rattle.np_json.specs.Shapes.{Read, ◌>>=◌, ◌>>◌, has_member, listed, must_be_object, optional, refuse_if, required}
+use Rattle.np_json.specs.Prelude.{Read, has_member, listed, must_be_object, namespaced_name, of_type, optional, refuse_if, required, text, ◌>>=◌, ◌>>◌}
 use Rattle.np_policies.specs.Types.{Block, Direction, Egress, Ingress, IpBlock, NamespacedName, NetPeer, NetPolicy, NetRule, NetSpec, PeerShape, Selector}
 use Rattle.np_policies.specs.Blocks.{ip_block}
 use Rattle.np_policies.specs.Ports.{net_port}
 use Rattle.np_policies.specs.Selectors.{selector, everything}
 use Rattle.np_model.specs.declared.network_policy.NetPeer.TheVariants.{Pods}
-use Rattle.np_model.specs.Words.{direction_text}
+use Rattle.np_model.specs.Prelude.{direction_text}
 
 -- the member of a rule that lists the other ends
 abbrev pub peers_member : Direction → List ℕ

@@ -4,10 +4,8 @@ use Rattle.std.specs.Prelude.{ℕ, ℤ, List, [], ◌∷◌, length, Bool, false
 use Rattle.std.specs.Option.{option_map_or}
 use Rattle.serde_json.specs.Data.{Data}
 use Rattle.np_policies.specs.Types.{AdminPort, BadField, BadPort, Name, NetPort, Number, PortValue, Proto, Tcp}
-use Rattle.np_json.specs.Members.{as_whole}
-use Rattle.np_json.specs.Scalars.{text, port, port_number, protocol_name}
-use Rattle.np_json.specs.Shapes.{Read, ◌>>=◌, ◌>>◌, has_member, has_one_of, must_be_object, optional, optional_or, passing, refuse_if, refuse_member_if, required}
-use Rattle.np_model.specs.Words.{is_word}
+use Rattle.np_json.specs.Prelude.{Read, as_whole, has_member, has_one_of, must_be_object, optional, optional_or, passing, port, port_number, protocol_name, refuse_if, refuse_member_if, required, text, ◌>>=◌, ◌>>◌}
+use Rattle.np_model.specs.Prelude.{is_word}
 use Rattle.np_model.specs.declared.admin_policy.AdminPort.TheVariants as admin
 use Rattle.np_model.specs.declared.network_policy.NetPort.TheVariants as net
 

@@ -4,13 +4,10 @@ use Rattle.std.specs.Map.{lookup}
 use Rattle.std.specs.Str.{bytes_eq}
 use Rattle.serde_json.specs.Data.{Data, Members, no_members, member}
 use Rattle.serde_json.specs.Find.{as_object}
-use Rattle.np_json.specs.Members.{unless_null}
-use Rattle.np_json.specs.Scalars.{text, word, labels}
-use Rattle.np_json.specs.Shapes.{Read, ◌>>=◌, ◌>>◌, listed, must_be_object, optional, passing, refuse, refuse_if, required}
-use Rattle.np_model.specs.Words.{is_whole_word}
+use Rattle.np_json.specs.Prelude.{Read, labels, listed, must_be_object, optional, passing, refuse, refuse_if, required, text, unless_null, word, ◌>>=◌, ◌>>◌}
+use Rattle.np_model.specs.Prelude.{is_whole_word}
 use Rattle.np_policies.specs.Types.{Absent, BadField, BadSelector, NoneOf, OneOf, Op, Present, Requirement, Selector}
-use Rattle.np_labels.specs.Selectors.{label_requirement, requirement_of}
-use Rattle.np_labels.specs.WellFormed.{fits}
+use Rattle.np_labels.specs.Prelude.{fits, label_requirement, requirement_of}
 
 -- the key of an expression: a word that is not empty, else BadField
 unfoldable pub key : Data → Read (List ℕ)

@@ -1,6 +1,6 @@
 -- Policies whose parts are all well formed.
 use Rattle.std.specs.Prelude.{Bool}
-use Rattle.np_model.specs.WellPolicies.{is_well_admin_policy, is_well_base_policy, is_well_net_policy}
+use Rattle.np_model.specs.Prelude.{is_well_admin_policy, is_well_base_policy, is_well_net_policy}
 use Rattle.np_policies.specs.Types.{Policy}
 use Rattle.np_policies.specs.declared.policy.Policy.TheVariants.{Net, Admin, Base}
 

@@ -1,6 +1,6 @@
 //! Peers of admin policies.
 ghost use Rattle.serde_json.specs.View.{view};
-ghost use Rattle.np_json.specs.Shapes.{Gives};
+ghost use Rattle.np_json.specs.Prelude.{Gives};
 ghost use Rattle.np_policies.specs.AdminPolicies as shapes;
 
 use crate::ip_block_shape::CidrText;

@@ -1,5 +1,5 @@
 //! AdminNetworkPolicies and the BaselineAdminNetworkPolicy.
-ghost use Rattle.np_json.specs.Shapes.{Gives};
+ghost use Rattle.np_json.specs.Prelude.{Gives};
 ghost use Rattle.np_policies.specs.AdminPolicies as shapes;
 
 use crate::admin_rule_shape::{AdminKind, admin_rules};

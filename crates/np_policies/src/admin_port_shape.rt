@@ -1,6 +1,6 @@
 //! Port entries of admin policies.
 ghost use Rattle.serde_json.specs.View.{view};
-ghost use Rattle.np_json.specs.Shapes.{Gives};
+ghost use Rattle.np_json.specs.Prelude.{Gives};
 ghost use Rattle.np_policies.specs.Ports as shapes;
 
 use crate::port_members::{PolicyPortName, protocol};

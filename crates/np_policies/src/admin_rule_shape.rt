@@ -1,7 +1,7 @@
 //! Rules of admin policies.
 ghost use Rattle.std.specs.Prelude.{◌≡◌};
 ghost use Rattle.serde_json.specs.View.{view};
-ghost use Rattle.np_json.specs.Shapes.{Gives};
+ghost use Rattle.np_json.specs.Prelude.{Gives};
 ghost use Rattle.np_policies.specs.AdminPolicies as shapes;
 ghost use Rattle.np_policies.specs.declared.admin_rule_shape.AdminKind.TheVariants as tiers;
 

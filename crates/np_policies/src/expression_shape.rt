@@ -1,8 +1,8 @@
 //! The expressions of label selectors.
 ghost use Rattle.std.specs.Prelude.{◌≡◌};
-ghost use Rattle.np_json.specs.Shapes.{Gives};
+ghost use Rattle.np_json.specs.Prelude.{Gives};
 ghost use Rattle.np_labels.specs.WellFormed as labels;
-ghost use Rattle.np_model.specs.Words.{is_whole_word};
+ghost use Rattle.np_model.specs.Prelude.{is_whole_word};
 ghost use Rattle.np_policies.specs.Selectors as shapes;
 
 use np_base::Text;

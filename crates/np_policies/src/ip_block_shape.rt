@@ -1,5 +1,5 @@
 //! Blocks of addresses.
-ghost use Rattle.np_json.specs.Shapes.{Gives};
+ghost use Rattle.np_json.specs.Prelude.{Gives};
 ghost use Rattle.np_policies.specs.Blocks as shapes;
 
 use np_addr::{Cidr, first_bad_except, read_cidr};

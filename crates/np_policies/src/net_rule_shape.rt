@@ -1,9 +1,9 @@
 //! Rules of NetworkPolicies.
 ghost use Rattle.std.specs.Prelude.{◌≡◌};
 ghost use Rattle.serde_json.specs.View.{view};
-ghost use Rattle.np_json.specs.Shapes.{Gives};
+ghost use Rattle.np_json.specs.Prelude.{Gives};
 ghost use Rattle.np_policies.specs.NetworkPolicies as shapes;
-ghost use Rattle.np_model.specs.Words.{direction_text};
+ghost use Rattle.np_model.specs.Prelude.{direction_text};
 
 use crate::net_peer_shape::NetPeerShape;
 use crate::net_port_shape::NetPortShape;

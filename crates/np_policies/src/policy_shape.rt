@@ -1,8 +1,8 @@
 //! Which policy an object is, and what it is read as.
-ghost use Rattle.np_model.specs.WellObjects.{option_all};
+ghost use Rattle.np_model.specs.Prelude.{option_all};
 ghost use Rattle.std.specs.Prelude.{◌≡◌, true, IfOk};
 ghost use Rattle.serde_json.specs.View.{view};
-ghost use Rattle.np_json.specs.Shapes.{Gives, GivesItem};
+ghost use Rattle.np_json.specs.Prelude.{Gives, GivesItem};
 ghost use Rattle.np_policies.specs.Policies as shapes;
 ghost use Rattle.np_policies.specs.Policies.{policy_of};
 ghost use Rattle.np_policies.specs.WellFormed.{is_well_policy};

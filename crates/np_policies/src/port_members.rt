@@ -1,7 +1,7 @@
 //! The members that port entries of all policies have: protocols and names of ports.
 ghost use Rattle.std.specs.Prelude.{◌≡◌, codes};
 ghost use Rattle.serde_json.specs.View.{view};
-ghost use Rattle.np_json.specs.Shapes.{Gives};
+ghost use Rattle.np_json.specs.Prelude.{Gives};
 ghost use Rattle.np_policies.specs.Ports as shapes;
 
 use np_base::Text;

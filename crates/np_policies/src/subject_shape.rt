@@ -1,6 +1,6 @@
 //! Subjects of admin policies.
 ghost use Rattle.serde_json.specs.View.{view};
-ghost use Rattle.np_json.specs.Shapes.{Gives};
+ghost use Rattle.np_json.specs.Prelude.{Gives};
 ghost use Rattle.np_policies.specs.AdminPolicies as shapes;
 
 use crate::selector_shape::{SelectorShape, everything};

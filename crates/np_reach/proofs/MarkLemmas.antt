@@ -5,13 +5,9 @@ use Rattle.std.specs.List.{flat_map, list_any, range_with_len}
 use Rattle.std.specs.Option.{option_map}
 use Rattle.std.proofs.lemmas.List.{append_assoc, map-append, take_more}
 use Rattle.std.proofs.lemmas.Option.{slice_get-map}
-use Rattle.np_reach.specs.Types.{Direction, EstateLists, Marks}
-use Rattle.np_reach.specs.Marks.{IsSpoken, speaks_at}
-use Rattle.np_reach.specs.Reach.{admin_reaches, has_place, may_at, may_reach, net_reaches, reach_of}
+use Rattle.np_reach.specs.Prelude.{Direction, EstateLists, IsSpoken, Marks, admin_reaches, has_place, may_at, may_reach, net_reaches, reach_of, speaks_at}
 use Rattle.np_rules.proofs.PlacesLemmas.{flat_map-next}
-use Rattle.np_rules.specs.model.Ends.{PodEnd, pod}
-use Rattle.np_rules.specs.model.NetTier.{is_isolated}
-use Rattle.np_rules.specs.model.Selection.{net_selects, subject_selects}
+use Rattle.np_rules.specs.Prelude.{PodEnd, is_isolated, net_selects, pod, subject_selects}
 
 -- what is made of places is what is made of the items there
 pub by_place : {X Y : Type 0} (f : ℕ → Y) (g : X → Y) (xs : List X) → ((place : ℕ) (x : X) → slice_get xs place ≡ Some x → f place ≡ g x) → map f (range_with_len 0 (length xs)) ≡ map g xs

@@ -3,26 +3,16 @@ use Rattle.std.proofs.Common.{◌≡◌, ℕ, List, [], ◌∷◌, Bool, true, f
 use Rattle.std.specs.List.{list_any}
 use Rattle.std.proofs.lemmas.Bool.{and_left, or_parts, or_from, not-false}
 use Rattle.std.proofs.lemmas.List.Folds.{list_any-append}
-use Rattle.np_reach.specs.Types.{AdminPolicy, AdminRule, Direction, EstateLists, Family, Four, NetPolicy, NetRule, Six}
+use Rattle.np_reach.specs.Prelude.{AdminPolicy, AdminRule, Direction, EstateLists, Family, Four, NetPolicy, NetRule, Six, admin_reaches, admin_rule_reaches, may_reach, net_reaches}
 use Rattle.np_model.specs.declared.admin_policy.Action.{Action}
 use Rattle.np_model.specs.declared.admin_policy.Action.TheVariants.{Allow, Deny, Pass}
-use Rattle.np_reach.specs.Reach.{admin_reaches, admin_rule_reaches, may_reach, net_reaches}
 use Rattle.np_rules.proofs.AdminTierLemmas as admin
 use Rattle.np_rules.proofs.DeciderLemmas.{least_is_among}
 use Rattle.np_rules.proofs.KeptLemmas.{quieter}
 use Rattle.np_rules.proofs.NetTierLemmas as net
 use Rattle.np_rules.proofs.PlacesLemmas.{list_any-numbered}
 use Rattle.np_rules.proofs.SideLemmas.{places-matches}
-use Rattle.np_rules.specs.model.AdminTier.{admin_candidates, admin_decider, admin_precedes}
-use Rattle.np_rules.specs.model.BaseTier.{base_decider}
-use Rattle.np_rules.specs.model.Ends.{Contact, End, PodEnd}
-use Rattle.np_rules.specs.Laws.{IsAmong}
-use Rattle.np_rules.specs.model.NetTier.{is_isolated, permits, placed_net_matches}
-use Rattle.np_rules.specs.model.Peers.{admin_peer_matches, net_peer_matches}
-use Rattle.np_rules.specs.model.Places.{PlacedAdminRule, admin_places, admin_places_of, admin_rules_of, net_places, net_rules_of}
-use Rattle.np_rules.specs.model.PortEntries.{admin_entry_matches, net_entry_matches}
-use Rattle.np_rules.specs.model.Rules.{admin_rule_matches, net_rule_matches, none_or_any}
-use Rattle.np_rules.specs.model.Selection.{net_selects, subject_selects}
+use Rattle.np_rules.specs.Prelude.{Contact, End, IsAmong, PlacedAdminRule, PodEnd, admin_candidates, admin_decider, admin_entry_matches, admin_peer_matches, admin_places, admin_places_of, admin_precedes, admin_rule_matches, admin_rules_of, base_decider, is_isolated, net_entry_matches, net_peer_matches, net_places, net_rule_matches, net_rules_of, net_selects, none_or_any, permits, placed_net_matches, subject_selects}
 use Rattle.np_rules.specs.model.SpokenSides.{action_says, admin_says, base_says, is_allow, side_allows}
 
 and_quieter : (a b c : Bool) → (b ≡ false → c ≡ false) → (a && b) ≡ false → (a && c) ≡ false

@@ -1,6 +1,5 @@
 -- Marks of pods by their places. For `SpokenSides::push_rows`, `chosen_of` and 3 more.
-use Rattle.std.proofs.Common.{◌≡◌, ℕ, zero, suc, ◌+◌, ◌-◌, ◌<◌, ◌≤◌, List, [], ◌∷◌, ◌++◌, Bool, true, false, ◌&&◌, ◌||◌, map, length, replicate, get_or, slice_get, unwrap_or, Option, Some}
-use Rattle.std.proofs.Common.{arith, refl, sym, ap, subst, inl, inr, ◌∙◌, if◌then◌else◌}
+use Rattle.std.proofs.Common.{◌≡◌, ℕ, zero, suc, ◌+◌, ◌-◌, ◌<◌, ◌≤◌, List, [], ◌∷◌, ◌++◌, Bool, true, false, ◌&&◌, ◌||◌, map, length, replicate, get_or, slice_get, unwrap_or, Option, Some, arith, refl, sym, ap, subst, inl, inr, ◌∙◌, if◌then◌else◌}
 use Rattle.std.specs.Prelude.{All}
 use Rattle.std.specs.List.{list_any, range_with_len}
 use Rattle.std.specs.Option.{option_map}
@@ -10,9 +9,7 @@ use Rattle.std.proofs.lemmas.List.Elements.{All-push}
 use Rattle.std.proofs.lemmas.List.Folds.{list_any-append}
 use Rattle.std.proofs.lemmas.Option.{slice_get-map, slice_get_past, unwrap_or-slice_get}
 use Rattle.std.proofs.Math.Bool.{or-false, or_assoc}
-use Rattle.np_reach.specs.Marks.{AreWithin, IsSpoken, marks_at, speaks_at}
-use Rattle.np_reach.specs.Reach.{has_place}
-use Rattle.np_reach.specs.Types.{Marks}
+use Rattle.np_reach.specs.Prelude.{AreWithin, IsSpoken, Marks, has_place, marks_at, speaks_at}
 
 -- ---- places of two lists, one behind the other
 

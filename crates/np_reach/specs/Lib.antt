@@ -1,6 +1,7 @@
-pub mod Reach
 pub mod Marks
 pub mod Namespaces
-pub mod Stretches
+pub mod Prelude
+pub mod Reach
 pub mod SidesOf
+pub mod Stretches
 pub mod Types

@@ -5,18 +5,14 @@ use Rattle.std.proofs.lemmas.Bool.{and_left, false≢true, or_from}
 use Rattle.std.specs.List.{list_any}
 use Rattle.std.specs.Str.{bytes_eq}
 use Rattle.np_reach.specs.Types.{AdminPolicy, AdminRule, Direction, Family, Four, NetPolicy, NetRule, Six}
-use Rattle.np_labels.specs.Selectors.{meets_selector}
+use Rattle.np_labels.specs.Prelude.{meets_selector}
 use Rattle.np_model.specs.declared.admin_policy.AdminPeer.{AdminPeer}
 use Rattle.np_model.specs.declared.admin_policy.AdminPeer.TheVariants as admin
 use Rattle.np_model.specs.declared.network_policy.NetPeer.{NetPeer}
 use Rattle.np_model.specs.declared.network_policy.NetPeer.TheVariants as net
 use Rattle.np_reach.specs.Reach.{admin_reaches, admin_rule_reaches, net_reaches}
 use Rattle.np_rules.proofs.KeptLemmas.{none_quieter, quieter}
-use Rattle.np_rules.specs.model.Ends.{PodEnd, pod}
-use Rattle.np_rules.specs.model.Peers.{admin_peer_matches, net_peer_matches}
-use Rattle.np_rules.specs.model.Places.{admin_rules_of, net_rules_of}
-use Rattle.np_rules.specs.model.Rules.{none_or_any}
-use Rattle.np_rules.specs.model.Selection.{net_selects, subject_selects}
+use Rattle.np_rules.specs.Prelude.{PodEnd, admin_peer_matches, admin_rules_of, net_peer_matches, net_rules_of, net_selects, none_or_any, pod, subject_selects}
 use Rattle.np_rules.specs.model.SpokenSides.{is_allow}
 
 -- two pods are of one namespace, as rules see them

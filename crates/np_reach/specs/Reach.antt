@@ -2,12 +2,7 @@
 use Rattle.std.specs.Prelude.{ℕ, List, [], Bool, true, false, ◌&&◌, ◌||◌, not, map, option_and_then, slice_get, unwrap_or}
 use Rattle.std.specs.List.{list_any}
 use Rattle.np_reach.specs.Types.{AdminPolicy, AdminRule, Direction, EstateLists, Four, NetPolicy, Six}
-use Rattle.np_rules.specs.model.Ends.{End, PodEnd, pod}
-use Rattle.np_rules.specs.model.NetTier.{is_isolated}
-use Rattle.np_rules.specs.model.Peers.{admin_peer_matches, net_peer_matches}
-use Rattle.np_rules.specs.model.Places.{admin_rules_of, net_rules_of}
-use Rattle.np_rules.specs.model.Rules.{none_or_any}
-use Rattle.np_rules.specs.model.Selection.{net_selects, subject_selects}
+use Rattle.np_rules.specs.Prelude.{End, PodEnd, admin_peer_matches, admin_rules_of, is_isolated, net_peer_matches, net_rules_of, net_selects, none_or_any, pod, subject_selects}
 use Rattle.np_rules.specs.model.SpokenSides.{is_allow}
 
 -- whether some rule of a NetworkPolicy speaks of a far end, whatever the port is

@@ -3,7 +3,7 @@ use Rattle.std.specs.Prelude.{◌≡◌, All, map}
 use Rattle.np_reach.specs.Marks.{IsSpoken}
 use Rattle.np_reach.specs.Reach.{admin_reaches, net_reaches}
 use Rattle.np_reach.specs.declared.reach.SpokenSides.{SpokenSides}
-use Rattle.np_rules.specs.model.Ends.{pod, pod_end}
+use Rattle.np_rules.specs.Prelude.{pod, pod_end}
 
 -- the policies are those of the estate, and each is known to speak of the pods that it speaks of
 pub record AreSides (sides : SpokenSides) : Type 0 where

@@ -3,7 +3,7 @@ use Rattle.std.specs.Prelude.{ℕ, ◌≡◌, All, List, Some, length, slice_get
 use Rattle.std.specs.List.{flat_map}
 use Rattle.np_reach.specs.Namespaces.{AreOfOneNamespace}
 use Rattle.np_reach.specs.declared.stretches.Stretch.{Stretch}
-use Rattle.np_rules.specs.model.Ends.{pod_end}
+use Rattle.np_rules.specs.Prelude.{pod_end}
 
 -- the pods of a stretch are all of one namespace
 abbrev pub IsStretch : Stretch → Type 0

@@ -1,7 +1,7 @@
 //! Which namespaces rules may speak of, whatever the labels of their pods are.
 ghost use Rattle.std.specs.Prelude.{◌≡◌};
 ghost use Rattle.np_reach.specs.Namespaces as spec;
-ghost use Rattle.np_rules.specs.model.Ends.{pod_end};
+ghost use Rattle.np_rules.specs.Prelude.{pod_end};
 
 use np_model::{Action, AdminPeer, AdminRule, NetPeer, NetRule, Pod};
 

@@ -2,8 +2,8 @@
 ghost use Rattle.std.specs.Prelude.{◌≡◌, false};
 ghost use Rattle.np_model.specs.declared.lists.EstateLists.{EstateLists};
 ghost use Rattle.np_model.specs.declared.direction.Direction.{Direction};
-ghost use Rattle.np_reach.specs.Reach.{may_reach};
-ghost use Rattle.np_rules.specs.model.Ends.{Contact, PodEnd};
+ghost use Rattle.np_reach.specs.Prelude.{may_reach};
+ghost use Rattle.np_rules.specs.Prelude.{Contact, PodEnd};
 ghost use Rattle.np_rules.specs.model.SpokenSides.{side_allows};
 
 /// The side of a pod allows nothing with a far end that is out of its reach, so that no row is lost with it.

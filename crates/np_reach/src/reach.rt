@@ -6,7 +6,7 @@ ghost use Rattle.np_reach.specs.Marks.{AreWithin};
 ghost use Rattle.np_reach.specs.Reach.{has_place, may_at, may_reach, reach_of};
 ghost use Rattle.np_reach.specs.SidesOf.{AreSides};
 ghost use Rattle.np_reach.specs.Stretches.{IsStretch};
-ghost use Rattle.np_rules.specs.model.Ends.{pod, pod_end};
+ghost use Rattle.np_rules.specs.Prelude.{pod, pod_end};
 
 use crate::spoken::{Marks, Spoken, chosen_of, own_of, spoken_by};
 use crate::stretches::{Stretch, stretches};

@@ -4,7 +4,7 @@ ghost use Rattle.std.specs.List.{list_any};
 ghost use Rattle.np_model.specs.declared.direction.Direction.{Direction};
 ghost use Rattle.np_reach.specs.Reach as spec;
 ghost use Rattle.np_reach.specs.Namespaces.{AreOfOneNamespace};
-ghost use Rattle.np_rules.specs.model.Ends.{End, PodEnd, pod, pod_end};
+ghost use Rattle.np_rules.specs.Prelude.{End, PodEnd, pod, pod_end};
 
 use crate::concerns::{admin_rule_concerns, net_rule_concerns};
 use np_addr::Family;

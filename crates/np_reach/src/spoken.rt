@@ -4,7 +4,7 @@ ghost use Rattle.std.specs.List.{flat_map, list_any};
 ghost use Rattle.np_reach.specs.Marks.{AreWithin, IsSpoken, speaks_at};
 ghost use Rattle.np_reach.specs.Namespaces.{AreOfOneNamespace};
 ghost use Rattle.np_reach.specs.Stretches.{FollowOneAnother, IsStretch};
-ghost use Rattle.np_rules.specs.model.Ends.{pod, pod_end};
+ghost use Rattle.np_rules.specs.Prelude.{pod, pod_end};
 
 use crate::speaker::Speaker;
 use crate::stretches::Stretch;

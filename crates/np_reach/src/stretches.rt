@@ -3,7 +3,7 @@ ghost use Rattle.std.specs.Prelude.{◌≡◌, ◌≤◌, All, IfOk, length, tak
 ghost use Rattle.std.specs.List.{flat_map};
 ghost use Rattle.np_reach.specs.Namespaces.{AreOfOneNamespace};
 ghost use Rattle.np_reach.specs.Stretches.{FollowOneAnother, IsStretch};
-ghost use Rattle.np_rules.specs.model.Ends.{pod_end};
+ghost use Rattle.np_rules.specs.Prelude.{pod_end};
 
 use np_base::NoMemory;
 use np_model::Pod;

@@ -6,10 +6,8 @@ use Rattle.std.specs.Option.{option_map_or}
 use Rattle.std.proofs.Math.Nat.{zero-add}
 use Rattle.std.proofs.lemmas.List.FromFn.{length-map-range_with_len, get_or-map-range_with_len}
 use Rattle.std.proofs.lemmas.Option.{slice_get_read}
-use Rattle.np_reading.specs.LeftOut.{left_out, is_for, is_left_out}
-use Rattle.np_reading.specs.Listed.{first_equal}
-use Rattle.np_reading.specs.Types.{Item, LeftOut, Rank}
-use Rattle.np_owners.specs.MadePods.{makers, makes_pod}
+use Rattle.np_reading.specs.Prelude.{Item, LeftOut, Rank, first_equal, is_for, is_left_out, left_out}
+use Rattle.np_owners.specs.Prelude.{makers, makes_pod}
 
 -- there is a mark for each item
 pub length-makers : (items : List Item) (marks : List Bool) → marks ≡ makers items → length marks ≡ length items

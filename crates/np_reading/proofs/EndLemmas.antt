@@ -3,10 +3,8 @@ use Rattle.std.proofs.Common.{◌≡◌, ℕ, suc, ◌+◌, ◌<◌, List, [], �
 use Rattle.std.proofs.Math.Nat.{zero-add}
 use Rattle.std.proofs.Math.Seq.{drop-cons}
 use Rattle.std.proofs.lemmas.List.FromFn.{length-map-range_with_len, get_or-map-range_with_len}
-use Rattle.np_reading.specs.Ends.{context_at, context_of, contexts_from, contexts_of, gives_end}
-use Rattle.np_reading.specs.Types.{Item, Owner, PodContext}
-use Rattle.np_owners.specs.MadePods.{makes_pod}
-use Rattle.np_owners.specs.Owners.{top_owner, top_owners}
+use Rattle.np_reading.specs.Prelude.{Item, Owner, PodContext, context_at, context_of, contexts_from, contexts_of, gives_end}
+use Rattle.np_owners.specs.Prelude.{makes_pod, top_owner, top_owners}
 
 -- there is a top owner, or none, for each item
 pub length-top_owners : (items : List Item) (owners : List (Option Owner)) → owners ≡ top_owners items → length owners ≡ length items

@@ -1,11 +1,8 @@
 -- The estate of items that nothing refuses. For crates above.
 use Rattle.std.proofs.Common.{◌≡◌, ℕ, List, None, Ok, refl}
-use Rattle.np_reading.specs.Types.{Item, Notes}
-use Rattle.np_owners.specs.Names.{first_repeat}
-use Rattle.np_owners.specs.Owners.{first_in_cycle}
-use Rattle.np_items.specs.Items.{items_of}
-use Rattle.np_reading.specs.Listed.{first_equal, ranks_of}
-use Rattle.np_reading.specs.Reading.{estate_of, estate_of_items}
+use Rattle.np_reading.specs.Prelude.{Item, Notes, estate_of, estate_of_items, first_equal, ranks_of}
+use Rattle.np_owners.specs.Prelude.{first_in_cycle, first_repeat}
+use Rattle.np_items.specs.Prelude.{items_of}
 
 -- it is what the items say
 pub estate_of-read : (texts : List (List ℕ)) (items : List Item) → items_of texts ≡ Ok items → first_repeat items ≡ None → first_equal (ranks_of items) ≡ None → first_in_cycle items ≡ None →

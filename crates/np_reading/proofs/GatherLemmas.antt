@@ -3,12 +3,7 @@ use Rattle.std.proofs.Common.{◌≡◌, ℕ, ◌+◌, List, [], ◌∷◌, ◌+
 use Rattle.std.specs.Prelude.{fold, option_to_list}
 use Rattle.std.specs.List.{cons_option, filter_map}
 use Rattle.std.specs.Option.{option_and_then}
-use Rattle.np_reading.specs.Ends.{end_of, end_of_object, pods_from, context_at, contexts_from, contexts_of}
-use Rattle.np_reading.specs.steps.Gathering.{Seen, in_order, nothing, or_first, with_item, with_items, with_object, with_pairs, with_pod, with_policy}
-use Rattle.np_reading.specs.LeftOut.{count_left_out}
-use Rattle.np_reading.specs.Listed.{admin_policy, base_policy, first_of, ingress, ingresses_from, net_policy, placed, service, with_admin, with_net}
-use Rattle.np_reading.specs.Reading.{estate_of_items, notes_of}
-use Rattle.np_reading.specs.Types.{AdminPolicy, BasePolicy, EstateLists, Finished, Host, IngressItem, Item, NetPolicy, PlacedIngress, Pod, PodContext, ServiceItem, Skipped}
+use Rattle.np_reading.specs.Prelude.{AdminPolicy, BasePolicy, EstateLists, Finished, Host, IngressItem, Item, NetPolicy, PlacedIngress, Pod, PodContext, Seen, ServiceItem, Skipped, admin_policy, base_policy, context_at, contexts_from, contexts_of, count_left_out, end_of, end_of_object, estate_of_items, first_of, in_order, ingress, ingresses_from, net_policy, notes_of, nothing, or_first, placed, pods_from, service, with_admin, with_item, with_items, with_net, with_object, with_pairs, with_pod, with_policy}
 use Rattle.np_items.specs.declared.item.Item.TheVariants as item
 use Rattle.np_objects.specs.declared.object.Object.TheVariants as object
 use Rattle.np_policies.specs.declared.policy.Policy.TheVariants as policy

@@ -3,9 +3,7 @@ use Rattle.std.proofs.Common.{◌≡◌, ℕ, List, Bool, true, false, cond, Som
 use Rattle.std.specs.BTreeMap.{BTreeMap, get}
 use Rattle.std.specs.Cmp.Lexicographic.{slice_cmp, bytes_decides, texts_ties}
 use Rattle.std.specs.Ordering.{is_eq, nat_cmp}
-use Rattle.np_reading.specs.Namespaces.{namespace_labels}
-use Rattle.np_reading.specs.steps.Known.{KnowsLabels}
-use Rattle.np_reading.specs.Types.{Item, Pair}
+use Rattle.np_reading.specs.Prelude.{Item, KnowsLabels, Pair, namespace_labels}
 
 -- with the labels of one more namespace, all that is known is right still
 pub KnowsLabels-more : (items : List Item) (known new : BTreeMap (List ℕ) (List Pair)) (added : List ℕ) → KnowsLabels items known

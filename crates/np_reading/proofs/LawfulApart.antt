@@ -9,13 +9,11 @@ use Rattle.np_reading.proofs.LawfulLists.{AllPairs-from_later, later-filter, lat
 use Rattle.np_reading.proofs.LawfulNames.{AreNamedApart, items_apart}
 use Rattle.np_reading.proofs.LawfulPods.{later-pods_from}
 use Rattle.np_reading.proofs.LawfulPolicies.{later-admin_policies}
-use Rattle.np_reading.specs.Ends.{pods_of}
-use Rattle.np_model.specs.Lawful.{are_apart, ArePodsApart, AreNamesApart, AreServicesApart}
-use Rattle.np_reading.specs.Listed.{admin_policy, admin_policies_of, service, services_of}
-use Rattle.np_reading.specs.Types.{AdminPolicy, Item, Pod, ServiceItem}
+use Rattle.np_reading.specs.Prelude.{AdminPolicy, Item, Pod, ServiceItem, admin_policies_of, admin_policy, pods_of, service, services_of}
+use Rattle.np_model.specs.Prelude.{AreNamesApart, ArePodsApart, AreServicesApart, are_apart}
 use Rattle.np_items.specs.declared.item.Item.TheVariants as item
 use Rattle.np_objects.specs.declared.object.Object.TheVariants as object
-use Rattle.np_owners.specs.Names.{name_of, named, first_repeat}
+use Rattle.np_owners.specs.Prelude.{first_repeat, name_of, named}
 use Rattle.np_policies.specs.declared.policy.Policy.TheVariants as policy
 
 -- ---- pods

@@ -5,9 +5,9 @@ use Rattle.std.specs.Option.{option_and_then, option_or}
 use Rattle.std.proofs.lemmas.Iterator.Adapters.{position_from-zero}
 use Rattle.np_base.proofs.Each.{All-weaker, All-parts}
 use Rattle.np_reading.proofs.LawfulLists.{AllLater}
-use Rattle.np_reading.specs.Types.{Item, ObjectName}
+use Rattle.np_reading.specs.Prelude.{Item, ObjectName}
 use Rattle.np_owners.proofs.PlaceLemmas.{same_name-sym}
-use Rattle.np_owners.specs.Names.{name_of, same_name, is_named, place_of, repeated, repeat_after, first_repeat}
+use Rattle.np_owners.specs.Prelude.{first_repeat, is_named, name_of, place_of, repeat_after, repeated, same_name}
 
 -- two items have not one name
 abbrev pub AreNamedApart : Item → Item → Type 0

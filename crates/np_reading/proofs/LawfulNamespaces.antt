@@ -7,18 +7,15 @@ use Rattle.std.proofs.lemmas.Bool.{and_from, and_parts}
 use Rattle.std.proofs.lemmas.List.{reverse-append}
 use Rattle.std.proofs.lemmas.List.Folds.{list_all-append}
 use Rattle.std.proofs.lemmas.Option.{slice_get_within, get_or_from_slice_get}
-use Rattle.np_model.specs.Lawful.{AgreeOnNamespace, SaysItsNamespace}
-use Rattle.np_reading.specs.Namespaces.{labels_in, listed_labels, name_label, namespace_labels, namespace_name}
-use Rattle.np_reading.specs.Types.{Item, Pair, Pod}
-use Rattle.np_items.specs.WellFormed.{IsWellItem}
+use Rattle.np_model.specs.Prelude.{AgreeOnNamespace, SaysItsNamespace, has_slash, is_name, is_well_label, is_well_labels, is_word}
+use Rattle.np_reading.specs.Prelude.{Item, Pair, Pod, labels_in, listed_labels, name_label, namespace_labels, namespace_name}
+use Rattle.np_items.specs.Prelude.{IsWellItem}
 use Rattle.np_items.specs.declared.item.Item.TheVariants as item
-use Rattle.np_model.specs.Words.{has_slash, is_name, is_word}
 use Rattle.np_labels.proofs.PairLists.{value_of-labels_of}
-use Rattle.np_labels.specs.Labels.{value_of, with_pair}
+use Rattle.np_labels.specs.Prelude.{value_of, with_pair}
 use Rattle.np_objects.proofs.WellLemmas.{with_pair-well}
-use Rattle.np_model.specs.WellObjects.{is_well_label, is_well_labels}
 use Rattle.np_objects.specs.declared.object.Object.TheVariants as object
-use Rattle.np_owners.specs.Names.{place_of}
+use Rattle.np_owners.specs.Prelude.{place_of}
 
 -- ---- the label that says the name
 

@@ -5,20 +5,17 @@ use Rattle.std.specs.List.{slice_get}
 use Rattle.std.proofs.lemmas.Bool.{and_from, and_parts}
 use Rattle.std.specs.Option.{option_map, option_or}
 use Rattle.std.proofs.lemmas.Option.{none-some, same_Some, option_and_then_some}
-use Rattle.np_owners.specs.Chains.{top}
+use Rattle.np_owners.specs.Prelude.{by_name, by_reference, last_owner, name_of, owner_of, top, top_owner, ups}
 use Rattle.np_reading.proofs.LawfulNamespaces.{well_at}
-use Rattle.np_items.specs.WellFormed.{IsWellItem}
-use Rattle.np_reading.specs.Types.{Item, ObjectName, Owner, OwnerRef}
+use Rattle.np_items.specs.Prelude.{IsWellItem}
+use Rattle.np_reading.specs.Prelude.{Item, ObjectName, Owner, OwnerRef}
 use Rattle.np_items.specs.declared.item.Item.TheVariants as item
-use Rattle.np_model.specs.Words.{is_name}
-use Rattle.np_objects.specs.ControllerKinds.{kind_name}
-use Rattle.np_model.specs.WellObjects.{option_all, is_well_labels, is_well_ports, is_well_selector}
-use Rattle.np_objects.specs.WellFormed.{is_well_owner, is_well_template}
+use Rattle.np_model.specs.Prelude.{is_name, is_well_labels, is_well_ports, option_all}
+use Rattle.np_objects.specs.Prelude.{is_well_owner, is_well_template, kind_name}
+use Rattle.np_model.specs.WellObjects.{is_well_selector}
 use Rattle.np_objects.specs.declared.controller.ControllerKind.{ControllerKind}
 use Rattle.np_objects.specs.declared.controller.ControllerKind.TheVariants.{Deployment, ReplicaSet, StatefulSet, DaemonSet, ReplicationController, Job, CronJob}
 use Rattle.np_objects.specs.declared.object.Object.TheVariants as object
-use Rattle.np_owners.specs.Names.{name_of}
-use Rattle.np_owners.specs.Owners.{by_name, by_reference, last_owner, owner_of, top_owner, ups}
 use Rattle.np_policies.specs.declared.policy.Policy.TheVariants as policy
 
 abbrev pub is_named_owner : Owner → Bool

@@ -6,18 +6,13 @@ use Rattle.std.specs.Option.{option_map}
 use Rattle.std.proofs.lemmas.Bool.{and_from, and_parts}
 use Rattle.std.proofs.lemmas.Option.{none-some, same_Some, option_and_then_some}
 use Rattle.np_reading.proofs.LawfulLists.{AllLater}
-use Rattle.np_reading.specs.Ends.{end_of, gives_end, listed_pod, made_pod, pod_at_item, pods_from, context, context_at, context_of}
-use Rattle.np_reading.specs.Namespaces.{namespace_labels}
-use Rattle.np_reading.specs.Types.{ControllerItem, Item, ObjectName, Owner, Pod, PodContext, PodItem, Template}
-use Rattle.np_items.specs.WellFormed.{IsWellItem}
+use Rattle.np_reading.specs.Prelude.{ControllerItem, Item, ObjectName, Owner, Pod, PodContext, PodItem, Template, context, context_at, context_of, end_of, gives_end, listed_pod, made_pod, namespace_labels, pod_at_item, pods_from}
+use Rattle.np_items.specs.Prelude.{IsWellItem}
 use Rattle.np_items.specs.declared.item.Item.TheVariants as item
-use Rattle.np_model.specs.Words.{is_name}
-use Rattle.np_model.specs.WellObjects.{option_all, is_well_labels, is_well_ports}
-use Rattle.np_objects.specs.WellFormed.{is_well_owner, is_well_template}
+use Rattle.np_model.specs.Prelude.{is_name, is_well_labels, is_well_ports, option_all}
+use Rattle.np_objects.specs.Prelude.{is_well_owner, is_well_template}
 use Rattle.np_objects.specs.declared.object.Object.TheVariants as object
-use Rattle.np_owners.specs.MadePods.{makes_pod}
-use Rattle.np_owners.specs.Names.{name_of, named}
-use Rattle.np_owners.specs.Owners.{top_owner}
+use Rattle.np_owners.specs.Prelude.{makes_pod, name_of, named, top_owner}
 
 -- whether a pod's own names and labels are names and labels
 abbrev pub is_well_itself : Pod → Bool

@@ -10,11 +10,10 @@ use Rattle.std.proofs.lemmas.Cmp.{nat_cmp_total, nat_list_cmp_total, on_total, t
 use Rattle.std.proofs.lemmas.List.{length-map}
 use Rattle.np_reading.proofs.LawfulEntries.{length-with_values-le, all-with_values, sorted_values, later-with_values, Less-from_sorted_keys}
 use Rattle.np_reading.proofs.LawfulLists.{AllLater, length-filter_map-le}
-use Rattle.np_model.specs.Lawful.{ascends, HasAscendingPriorities, comes_before, StandsBefore}
-use Rattle.np_reading.specs.Listed.{net_policy, net_name, with_net, net_policies_of, admin_policy, with_admin, admin_policies_of}
-use Rattle.np_reading.specs.Types.{AdminPolicy, Item, NetPolicy, ObjectName}
+use Rattle.np_model.specs.Prelude.{HasAscendingPriorities, StandsBefore, ascends, comes_before}
+use Rattle.np_reading.specs.Prelude.{AdminPolicy, Item, NetPolicy, ObjectName, admin_policies_of, admin_policy, net_name, net_policies_of, net_policy, with_admin, with_net}
 use Rattle.np_owners.proofs.PlaceLemmas.{is_eq-compare_names, equal_names}
-use Rattle.np_owners.specs.Names.{compare_names}
+use Rattle.np_owners.specs.Prelude.{compare_names}
 
 -- ---- orders
 

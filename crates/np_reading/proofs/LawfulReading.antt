@@ -11,13 +11,10 @@ use Rattle.np_reading.proofs.LawfulNamespaces.{AgreeOnNamespace-from_labels, Has
 use Rattle.np_reading.proofs.LawfulPods.{all-pods_from, length-pods_from-le}
 use Rattle.np_reading.proofs.LawfulPolicies.{admin_policies-ascend, length-admin_policies-le, length-net_policies-le, net_policies-ascend}
 use Rattle.np_reading.proofs.LawfulWell.{estate_of_items-well}
-use Rattle.np_reading.specs.Ends.{pods_of}
-use Rattle.np_model.specs.Lawful.{IsEarlierItem, IsFew, IsLawful}
-use Rattle.np_reading.specs.Listed.{ingress, ingresses_from, ingresses_of, placed, service}
-use Rattle.np_reading.specs.Reading.{estate_of_items}
-use Rattle.np_items.specs.WellFormed.{IsWellItem}
-use Rattle.np_reading.specs.Types.{IngressItem, Item}
-use Rattle.np_owners.specs.Names.{first_repeat}
+use Rattle.np_reading.specs.Prelude.{IngressItem, Item, estate_of_items, ingress, ingresses_from, ingresses_of, placed, pods_of, service}
+use Rattle.np_model.specs.Prelude.{IsEarlierItem, IsFew, IsLawful}
+use Rattle.np_items.specs.Prelude.{IsWellItem}
+use Rattle.np_owners.specs.Prelude.{first_repeat}
 
 -- ---- ingresses
 

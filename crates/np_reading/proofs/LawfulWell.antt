@@ -10,17 +10,11 @@ use Rattle.np_reading.proofs.LawfulNamespaces.{namespace_labels-well}
 use Rattle.np_reading.proofs.LawfulOwners.{top_owner-well}
 use Rattle.np_reading.proofs.LawfulPods.{IsPodOf, all-pods_from}
 use Rattle.np_reading.proofs.LawfulPolicies.{all-admin_policies, all-net_policies}
-use Rattle.np_reading.specs.Ends.{pods_of}
-use Rattle.np_model.specs.Lawful.{is_well, is_well_pod}
-use Rattle.np_reading.specs.Listed.{admin_policy, admin_policies_of, base_policy, baseline_of, first_of, ingress, ingresses_from, ingresses_of, net_policy, net_policies_of, placed, service, services_of}
-use Rattle.np_reading.specs.Reading.{estate_of_items}
-use Rattle.np_reading.specs.Types.{BasePolicy, IngressItem, Item, Pod}
-use Rattle.np_items.specs.WellFormed.{IsWellItem}
+use Rattle.np_reading.specs.Prelude.{BasePolicy, IngressItem, Item, Pod, admin_policies_of, admin_policy, base_policy, baseline_of, estate_of_items, first_of, ingress, ingresses_from, ingresses_of, net_policies_of, net_policy, placed, pods_of, service, services_of}
+use Rattle.np_model.specs.Prelude.{is_name, is_well, is_well_admin_policy, is_well_base_policy, is_well_ingress, is_well_labels, is_well_net_policy, is_well_pod, is_well_ports, is_well_service, option_all}
+use Rattle.np_items.specs.Prelude.{IsWellItem}
 use Rattle.np_items.specs.declared.item.Item.TheVariants as item
-use Rattle.np_model.specs.Words.{is_name}
-use Rattle.np_model.specs.WellObjects.{option_all, is_well_ingress, is_well_labels, is_well_ports, is_well_service}
 use Rattle.np_objects.specs.declared.object.Object.TheVariants as object
-use Rattle.np_model.specs.WellPolicies.{is_well_admin_policy, is_well_base_policy, is_well_net_policy}
 use Rattle.np_policies.specs.declared.policy.Policy.TheVariants as policy
 
 some_passes : {A : Type 0} (p : A → Bool) (o : Option A) (x : A) → o ≡ Some x → option_all p o ≡ true → p x ≡ true

@@ -16,14 +16,11 @@ use Rattle.np_reading.proofs.LawfulNames.{AreNamedApart, items_apart}
 use Rattle.np_reading.proofs.LawfulPolicies.{compare_names-exact, nat_cmp-exact}
 use Rattle.np_reading.proofs.PriorityLemmas.{priorities-apart}
 use Rattle.np_reading.proofs.ReadingLemmas.{estate_of-passed}
-use Rattle.np_reading.specs.EachOnce.{HoldsEachOnce, IsOfItsItem}
-use Rattle.np_model.specs.Lawful.{are_apart}
-use Rattle.np_reading.specs.Listed.{admin_policies_of, admin_policy, base_policy, first_equal, first_of, ingress, ingresses_from, ingresses_of, net_name, net_policies_of, net_policy, placed, rank_of, ranks_of}
-use Rattle.np_reading.specs.Reading.{estate_of}
-use Rattle.np_reading.specs.Types.{AdminPolicy, BasePolicy, EstateLists, IngressItem, Item, NetPolicy, ObjectName, PlacedIngress, Rank}
-use Rattle.np_items.specs.Items.{items_of}
+use Rattle.np_reading.specs.Prelude.{AdminPolicy, BasePolicy, EstateLists, HoldsEachOnce, IngressItem, IsOfItsItem, Item, NetPolicy, ObjectName, PlacedIngress, Rank, admin_policies_of, admin_policy, base_policy, estate_of, first_equal, first_of, ingress, ingresses_from, ingresses_of, net_name, net_policies_of, net_policy, placed, rank_of, ranks_of}
+use Rattle.np_model.specs.Prelude.{are_apart}
+use Rattle.np_items.specs.Prelude.{items_of}
 use Rattle.np_items.specs.declared.item.Item.TheVariants as item
-use Rattle.np_owners.specs.Names.{name_of, named, first_repeat}
+use Rattle.np_owners.specs.Prelude.{first_repeat, name_of, named}
 use Rattle.np_policies.specs.declared.policy.Policy.TheVariants as policy
 
 -- names that are apart are not the same

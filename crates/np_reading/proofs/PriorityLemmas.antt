@@ -13,8 +13,7 @@ use Rattle.std.proofs.lemmas.Map.Made.{AllPairs-from_IsDistinct}
 use Rattle.std.proofs.lemmas.Map.Text.{is_eq-slice_cmp}
 use Rattle.std.proofs.lemmas.Option.{none-some}
 use Rattle.std.proofs.lemmas.Simd.{map-map}
-use Rattle.np_reading.specs.Listed.{compare_ranks, first_equal, rank_of, with_rank}
-use Rattle.np_reading.specs.Types.{AdminPolicy, Rank}
+use Rattle.np_reading.specs.Prelude.{AdminPolicy, Rank, compare_ranks, first_equal, rank_of, with_rank}
 use Rattle.np_reading.proofs.KeptEntries.{keys-kept}
 use Rattle.np_reading.proofs.LawfulEntries.{below-trans, sorted-insert_entry}
 use Rattle.np_reading.proofs.LawfulPolicies.{nat_cmp-exact}

@@ -1,13 +1,10 @@
 -- What is so of a list that is not refused. For OnceLemmas and crates above.
 use Rattle.std.proofs.Common.{◌≡◌, ℕ, List, Option, Some, None, Ok, Err, refl}
 use Rattle.std.specs.Prelude.{⊤}
-use Rattle.np_reading.specs.Listed.{equal_priority, first_equal, have_priorities_apart, ranks_of}
-use Rattle.np_reading.specs.Reading.{estate_of, have_names_apart, have_no_cycle, estate_of_items}
-use Rattle.np_reading.specs.Readings.{Reading, refuse_found}
-use Rattle.np_reading.specs.Types.{EstateLists, Item, Refusal}
-use Rattle.np_items.specs.Items.{items_of}
-use Rattle.np_json.specs.Shapes.{◌>>◌}
-use Rattle.np_owners.specs.Names.{first_repeat}
+use Rattle.np_reading.specs.Prelude.{EstateLists, Item, Reading, Refusal, equal_priority, estate_of, estate_of_items, first_equal, have_names_apart, have_no_cycle, have_priorities_apart, ranks_of, refuse_found}
+use Rattle.np_items.specs.Prelude.{items_of}
+use Rattle.np_json.specs.Prelude.{◌>>◌}
+use Rattle.np_owners.specs.Prelude.{first_repeat}
 
 none_found : {A : Type 0} (refusal : A → Refusal) (found : Option A) → refuse_found refusal found ≡ Ok tt → found ≡ None
 none_found refusal None passed = refl

@@ -6,13 +6,10 @@ use Rattle.std.specs.List.{slice_get}
 use Rattle.std.specs.Option.{option_flatten, option_or}
 use Rattle.std.proofs.lemmas.Option.{slice_get-map}
 use Rattle.np_owners.proofs.Walks.{chain_none}
-use Rattle.np_owners.specs.Chains.{last_of, top, up}
-use Rattle.np_reading.specs.TopOwners.{named_or_itself}
-use Rattle.np_reading.specs.Types.{Item, OwnerRef, PodItem}
+use Rattle.np_owners.specs.Prelude.{by_name, by_reference, last_of, last_owner, named, owner_place, top, top_owner, up, ups}
+use Rattle.np_reading.specs.Prelude.{Item, OwnerRef, PodItem, named_or_itself}
 use Rattle.np_items.specs.declared.item.Item.TheVariants as item
 use Rattle.np_objects.specs.declared.object.Object.TheVariants as object
-use Rattle.np_owners.specs.Names.{named}
-use Rattle.np_owners.specs.Owners.{by_reference, by_name, last_owner, owner_place, top_owner, ups}
 
 top_owner-unlisted : (items : List Item) (place : ℕ) (one : Item) → slice_get items place ≡ Some one → owner_place items one ≡ None → top_owner items place ≡ last_owner one
 top_owner-unlisted items place one at alone =

@@ -5,9 +5,7 @@ use Rattle.np_reading.specs.Namespaces.{namespace_labels}
 use Rattle.np_reading.specs.Types.{ControllerItem, Item, Object, Owner, Pair, Pod, PodContext, PodItem, Template}
 use Rattle.np_items.specs.declared.item.Item.TheVariants as item
 use Rattle.np_objects.specs.declared.object.Object.TheVariants as object
-use Rattle.np_owners.specs.MadePods.{makes_pod}
-use Rattle.np_owners.specs.Names.{name_of}
-use Rattle.np_owners.specs.Owners.{top_owner}
+use Rattle.np_owners.specs.Prelude.{makes_pod, name_of, top_owner}
 
 -- ---- which items give a pod
 

@@ -6,9 +6,9 @@ use Rattle.np_reading.specs.Ends.{is_on_host}
 use Rattle.np_reading.specs.Types.{AdminPolicy, BasePolicy, Finished, Host, Item, LeftOut, Pod, PodItem, Skipped}
 use Rattle.np_items.specs.declared.item.Item.TheVariants as item
 use Rattle.np_objects.specs.declared.object.Object.TheVariants as object
-use Rattle.np_owners.specs.MadePods.{makes_pod}
+use Rattle.np_owners.specs.Prelude.{makes_pod}
 use Rattle.np_model.specs.declared.admin_policy.AdminRule.{AdminRule}
-use Rattle.np_model.specs.Families.{is_networks}
+use Rattle.np_model.specs.Prelude.{is_networks}
 
 abbrev pub if_counts : Bool → LeftOut → Option LeftOut
 if_counts counts why = if counts then Some why else None

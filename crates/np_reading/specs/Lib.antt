@@ -3,9 +3,10 @@ pub mod Ends
 pub mod LeftOut
 pub mod Listed
 pub mod Namespaces
+pub mod Prelude
 pub mod Reading
 pub mod Readings
 pub mod Refusals
+pub mod steps
 pub mod TopOwners
 pub mod Types
-pub mod steps

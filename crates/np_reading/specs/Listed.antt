@@ -10,7 +10,7 @@ use Rattle.np_reading.specs.Readings.{Reading, refuse_found}
 use Rattle.np_reading.specs.Types.{AdminPolicy, BasePolicy, EqualPriority, IngressItem, Item, NetPolicy, ObjectName, PlacedIngress, Rank, Refusal, ServiceItem}
 use Rattle.np_items.specs.declared.item.Item.TheVariants as item
 use Rattle.np_objects.specs.declared.object.Object.TheVariants as object
-use Rattle.np_owners.specs.Names.{compare_names}
+use Rattle.np_owners.specs.Prelude.{compare_names}
 use Rattle.np_policies.specs.declared.policy.Policy.TheVariants as policy
 
 -- ---- what an item is

@@ -4,9 +4,9 @@ use Rattle.std.specs.List.{slice_get}
 use Rattle.std.specs.Option.{option_and_then}
 use Rattle.np_reading.specs.Types.{Item, ObjectName, Pair}
 use Rattle.np_items.specs.declared.item.Item.TheVariants as item
-use Rattle.np_labels.specs.Labels.{labels_of}
+use Rattle.np_labels.specs.Prelude.{labels_of}
 use Rattle.np_objects.specs.declared.object.Object.TheVariants as object
-use Rattle.np_owners.specs.Names.{place_of}
+use Rattle.np_owners.specs.Prelude.{place_of}
 
 abbrev pub labels_in : Option Item → List Pair
 labels_in (Some (item.Object (object.Namespace namespace))) = namespace.labels

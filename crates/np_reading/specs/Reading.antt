@@ -6,10 +6,9 @@ use Rattle.np_reading.specs.Listed.{admin_policies_of, baseline_of, have_priorit
 use Rattle.np_reading.specs.Readings.{Reading, refuse_found}
 use Rattle.np_reading.specs.Refusals.{items_refusal}
 use Rattle.np_reading.specs.Types.{Duplicate, EstateLists, Finished, Host, Item, ItemsFault, Notes, OwnerCycle, Skipped}
-use Rattle.np_items.specs.Items.{items_of}
-use Rattle.np_json.specs.Shapes.{◌>>=◌, ◌>>◌}
-use Rattle.np_owners.specs.Names.{first_repeat}
-use Rattle.np_owners.specs.Owners.{first_in_cycle}
+use Rattle.np_items.specs.Prelude.{items_of}
+use Rattle.np_json.specs.Prelude.{◌>>=◌, ◌>>◌}
+use Rattle.np_owners.specs.Prelude.{first_in_cycle, first_repeat}
 
 abbrev pub notes_of : List Item → Notes
 notes_of items = record {

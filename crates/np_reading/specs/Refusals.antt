@@ -2,7 +2,7 @@
 use Rattle.std.specs.Prelude.{ℕ, List, ◌++◌, codes, decimal}
 use Rattle.np_reading.specs.Types.{Bad, Duplicate, EqualPriority, ItemsFault, NestedList, NoMemory, NotAList, NotJson, OwnerCycle, Refusal, TooManyItems}
 use Rattle.np_items.specs.declared.fault.ItemsFault.TheVariants as items
-use Rattle.np_json.specs.Faults.{fault_text}
+use Rattle.np_json.specs.Prelude.{fault_text}
 use Rattle.np_owners.specs.declared.fault.ChainsFault.{ChainsFault}
 use Rattle.np_owners.specs.declared.fault.ChainsFault.TheVariants as chains
 use Rattle.np_owners.specs.declared.fault.PlacesFault.{PlacesFault}

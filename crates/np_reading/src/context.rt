@@ -3,8 +3,7 @@ ghost use Rattle.std.specs.Prelude.{◌≡◌, IfOk, OnOk};
 ghost use Rattle.np_reading.specs.Ends as spec;
 ghost use Rattle.np_reading.specs.steps.Known.{KnowsLabels};
 ghost use Rattle.np_owners.specs.MadePods as made_pods;
-ghost use Rattle.np_owners.specs.Names.{HoldsPlaces};
-ghost use Rattle.np_owners.specs.Owners.{top_owners};
+ghost use Rattle.np_owners.specs.Prelude.{HoldsPlaces, top_owners};
 
 use crate::namespaces::{KnownLabels, shared_labels};
 use np_base::{NoMemory, TryCopy};

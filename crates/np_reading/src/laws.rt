@@ -1,18 +1,14 @@
 //! What follows from the definitions of estates.
 ghost use Rattle.std.specs.Prelude.{◌≡◌, ◌≤◌, ℕ, List, Some, None, Ok, All, length, slice_get};
-ghost use Rattle.np_reading.specs.EachOnce.{HoldsEachOnce};
-ghost use Rattle.np_model.specs.Lawful.{IsLawful};
-ghost use Rattle.np_reading.specs.Reading.{estate_of, estate_of_items};
+ghost use Rattle.np_reading.specs.Prelude.{HoldsEachOnce, estate_of, estate_of_items, named_or_itself};
+ghost use Rattle.np_model.specs.Prelude.{IsLawful};
 ghost use Rattle.np_model.specs.declared.lists.EstateLists.{EstateLists};
-ghost use Rattle.np_reading.specs.TopOwners.{named_or_itself};
-ghost use Rattle.np_items.specs.Items.{items_of};
-ghost use Rattle.np_items.specs.WellFormed.{IsWellItem};
+ghost use Rattle.np_items.specs.Prelude.{IsWellItem, items_of};
 ghost use Rattle.np_items.specs.declared.item.Item.{Item};
 ghost use Rattle.np_items.specs.declared.item.Item.TheVariants as item;
 ghost use Rattle.np_objects.specs.declared.object.Object.TheVariants as object;
 ghost use Rattle.np_objects.specs.declared.pod_item.PodItem.{PodItem};
-ghost use Rattle.np_owners.specs.Names.{first_repeat};
-ghost use Rattle.np_owners.specs.Owners.{owner_place, top_owner};
+ghost use Rattle.np_owners.specs.Prelude.{first_repeat, owner_place, top_owner};
 
 /// Every estate that is read is lawful: that of at most 20,000 items whose names and labels are names and labels, and of
 /// which no two have one name.

@@ -3,8 +3,8 @@ ghost use Rattle.std.specs.Prelude.{◌≡◌, IfOk, OnOk};
 ghost use Rattle.std.specs.List.{slice_get};
 ghost use Rattle.std.specs.Option.{option_and_then};
 ghost use Rattle.np_reading.specs.Namespaces as spec;
-ghost use Rattle.np_reading.specs.steps.Known.{KnowsLabels};
-ghost use Rattle.np_owners.specs.Names.{HoldsPlaces};
+ghost use Rattle.np_reading.specs.Prelude.{KnowsLabels};
+ghost use Rattle.np_owners.specs.Prelude.{HoldsPlaces};
 
 use np_base::{NoMemory, Seq, Text, TryCopy};
 use np_items::Item;

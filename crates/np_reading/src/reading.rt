@@ -1,11 +1,10 @@
 //! How an estate is read from the bytes of its inputs.
 ghost use Rattle.std.specs.Prelude.{◌≡◌, ◌≤◌, length, map, IfOk};
 ghost use Rattle.np_reading.specs.steps.Gathering as gathering;
-ghost use Rattle.np_model.specs.Lawful.{IsLawful};
+ghost use Rattle.np_model.specs.Prelude.{IsLawful};
 ghost use Rattle.np_reading.specs.Reading as spec;
-ghost use Rattle.np_reading.specs.Readings.{Gives};
-ghost use Rattle.np_owners.specs.Names.{HoldsPlaces};
-ghost use Rattle.np_owners.specs.Owners.{ups};
+ghost use Rattle.np_reading.specs.Prelude.{Gives};
+ghost use Rattle.np_owners.specs.Prelude.{HoldsPlaces, ups};
 
 use crate::context::contexts;
 use crate::grouped_items::{GroupedItems, gather};

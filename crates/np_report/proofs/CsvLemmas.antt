@@ -3,8 +3,7 @@ use Rattle.std.proofs.Common.{◌≡◌, ℕ, List, [], ◌∷◌, ◌++◌, tru
 use Rattle.std.proofs.lemmas.Bool.{ne_eqb}
 use Rattle.csv.specs.Writing.{default_writer, escaped, field_text, fields_text, is_blank}
 use Rattle.csv.specs.declared.writer.WriterBuilder.{WriterBuilder}
-use Rattle.np_report.specs.Forms.{csv_header, csv_line}
-use Rattle.np_report.specs.Types.{RowText}
+use Rattle.np_report.specs.Prelude.{RowText, csv_header, csv_line}
 
 -- the header row
 pub header_is : codes "source,destination,connections\n" ≡ csv_header

@@ -2,8 +2,7 @@
 use Rattle.std.proofs.Common.{◌≡◌, List, [], ◌∷◌, codes, append_assoc}
 use Rattle.json.specs.Print.{print, print_from}
 use Rattle.json.specs.Token.{Token, begin_object, end_object, key, string}
-use Rattle.np_report.specs.Forms.{json_object}
-use Rattle.np_report.specs.Types.{RowText}
+use Rattle.np_report.specs.Prelude.{RowText, json_object}
 use Rattle.serde_json.specs.Written.{compact_text}
 
 -- the tokens of a row

@@ -1,8 +1,7 @@
 -- The bytes of several rows, and what comes behind them. For crates above.
 use Rattle.std.proofs.Common.{◌≡◌, ℕ, List, [], ◌∷◌, ◌++◌, Bool, true, false, ◌||◌, append_assoc, ap, sym, ◌∙◌}
 use Rattle.std.proofs.Math.Bool.{or-false, or-true}
-use Rattle.np_report.specs.Forms.{Form, lines_of, text_to_come}
-use Rattle.np_report.specs.Types.{RowText}
+use Rattle.np_report.specs.Prelude.{Form, RowText, lines_of, text_to_come}
 
 -- whether there is a row
 abbrev pub is_some_row : List RowText → Bool

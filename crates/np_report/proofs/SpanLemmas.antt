@@ -3,10 +3,8 @@ use Rattle.std.proofs.Common.{◌≡◌, ℕ, zero, suc, ◌+◌, ◌^◌, ◌<�
 use Rattle.std.proofs.lemmas.Bool.{and_parts, both_ways, false_from_ne_true, leb-false, leb-true, or_left}
 use Rattle.std.proofs.lemmas.Nat.{pow_pos}
 use Rattle.std.specs.List.{flat_map}
-use Rattle.np_addr.specs.Addresses.{width_of}
-use Rattle.np_addr.specs.Blocks.{AddressRanges}
-use Rattle.np_addr.specs.Prefixes.{blocks_in, is_inside, prefixes_of, range_prefixes}
-use Rattle.np_report.specs.Types.{Family, Four, Range, Six}
+use Rattle.np_addr.specs.Prelude.{AddressRanges, blocks_in, is_inside, prefixes_of, range_prefixes, width_of}
+use Rattle.np_report.specs.Prelude.{Family, Four, Range, Six}
 use Rattle.np_base.proofs.Ranges.{is_within-inside}
 use Rattle.np_base.specs.Ranges.{IsAscending, holds}
 

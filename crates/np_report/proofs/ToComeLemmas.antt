@@ -1,10 +1,6 @@
 -- What is still to come of the text of the table of a cluster, from row to row. For crates above.
 use Rattle.std.proofs.Common.{◌≡◌, ℕ, List, [], ◌∷◌, ◌++◌, Bool, true, false, refl}
-use Rattle.np_report.specs.Forms.{Form}
-use Rattle.np_report.specs.Keeps.{keeps}
-use Rattle.np_report.specs.RowText.{row_text}
-use Rattle.np_report.specs.TableText.{rows_to_come}
-use Rattle.np_report.specs.Types.{Query, Report, Row}
+use Rattle.np_report.specs.Prelude.{Form, Query, Report, Row, keeps, row_text, rows_to_come}
 
 module _ (form : Form) (names : List (List ℕ)) (query : Query) (report : Report) (came : Bool) where
   -- behind the last row it is the end

@@ -1,6 +1,7 @@
 pub mod Faults
 pub mod Forms
 pub mod Keeps
+pub mod Prelude
 pub mod RowText
 pub mod TableText
 pub mod Tallied

@@ -1,14 +1,12 @@
 -- The texts of a row.
 use Rattle.std.specs.Prelude.{ℕ, List, [], ◌++◌, ◌==◌, codes, map, slice_index_or, Option, Some, None, if◌then◌else◌}
 use Rattle.std.specs.List.{join_by}
-use Rattle.np_addr.specs.AddressText.{address_text, cidr_text}
-use Rattle.np_addr.specs.Prefixes.{range_prefixes}
+use Rattle.np_addr.specs.Prelude.{address_text, cidr_text, range_prefixes}
 use Rattle.np_report.specs.Types.{Controller, Family, Four, Range, Report, Row, RowEnd, RowText, Six, Span, Work}
 use Rattle.np_addr.specs.declared.cidr.Cidr.{Cidr}
-use Rattle.np_conns.specs.Conns.{has_spot}
-use Rattle.np_conns.specs.ConnsText.{conns_text}
-use Rattle.np_fold.specs.Workloads.{Folding}
-use Rattle.np_kinds.specs.Between.{address_of}
+use Rattle.np_conns.specs.Prelude.{conns_text, has_spot}
+use Rattle.np_fold.specs.Prelude.{Folding}
+use Rattle.np_kinds.specs.Prelude.{address_of}
 use Rattle.np_table.specs.declared.rows.AddressSpan.{AddressSpan}
 use Rattle.np_table.specs.declared.rows.AddressSpan.TheVariants as span
 use Rattle.np_args.specs.declared.report.Report.TheVariants.{One, Two}

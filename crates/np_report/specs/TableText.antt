@@ -1,14 +1,13 @@
 -- The text of a table.
 use Rattle.std.specs.Prelude.{◌≡◌, ℕ, ◌<◌, ◌^◌, List, [], ◌∷◌, Bool, true, filter, length, map}
-use Rattle.np_addr.specs.Addresses.{width_of}
+use Rattle.np_addr.specs.Prelude.{width_of}
 use Rattle.np_report.specs.Types.{Direction, Family, Format, Query, Report, Row, RowText}
-use Rattle.np_model.specs.Families.{same_family}
+use Rattle.np_model.specs.Prelude.{same_family}
 use Rattle.np_report.specs.Forms.{Form, report_text, text_to_come}
 use Rattle.np_report.specs.Keeps.{keeps}
 use Rattle.np_report.specs.RowText.{row_text}
-use Rattle.np_routes.specs.ClusterTable.{ClusterTable, cluster_rows}
-use Rattle.np_table.specs.Said.{AllowSamePorts}
-use Rattle.np_table.specs.Table.{Table}
+use Rattle.np_routes.specs.Prelude.{ClusterTable, cluster_rows}
+use Rattle.np_table.specs.Prelude.{AllowSamePorts, Table}
 
 -- ---- the text
 

@@ -1,8 +1,7 @@
 //! Reports, row by row.
 ghost use Rattle.std.specs.Prelude.{◌≡◌, ◌≢◌, ◌↔◌, true, is_some, IsTrue, IfOk, OnOk, OnErr, IfErr, IsErrOf};
 ghost use Rattle.std.specs.Io.KnownBytes.{append_known};
-ghost use Rattle.np_io.specs.Counts.{Rose, NeverFalls};
-ghost use Rattle.np_io.specs.Taken.{TookFront};
+ghost use Rattle.np_io.specs.Prelude.{NeverFalls, Rose, TookFront};
 ghost use Rattle.np_report.specs.Forms.{fresh, under_way};
 
 use crate::csv_form::CsvForm;

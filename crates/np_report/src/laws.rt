@@ -1,8 +1,8 @@
 //! What follows from the definitions of the table's text. Each law is the contract of a call that does nothing.
 ghost use Rattle.std.specs.Prelude.{◌≡◌};
-ghost use Rattle.np_report.specs.TableText.{SayTheSame, list_text};
+ghost use Rattle.np_report.specs.Prelude.{SayTheSame, list_text};
 ghost use Rattle.np_report.specs.declared.query.Query.{Query};
-ghost use Rattle.np_routes.specs.ClusterTable.{ClusterTable};
+ghost use Rattle.np_routes.specs.Prelude.{ClusterTable};
 ghost use Rattle.np_args.specs.declared.format.Format.{Format};
 ghost use Rattle.np_args.specs.declared.report.Report.{Report};
 

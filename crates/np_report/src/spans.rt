@@ -1,8 +1,7 @@
 //! The text of a range of addresses.
 ghost use Rattle.std.specs.Prelude.{◌≡◌, ◌++◌, [], ◌∷◌, IfOk, codes, if◌then◌else◌, nat_le};
 ghost use Rattle.std.specs.List.{join_by};
-ghost use Rattle.np_addr.specs.AddressText.{address_text, cidr_text};
-ghost use Rattle.np_addr.specs.Prefixes.{prefixes_of};
+ghost use Rattle.np_addr.specs.Prelude.{address_text, cidr_text, prefixes_of};
 ghost use Rattle.np_report.specs.RowText as spec;
 
 use np_addr::{AddrSet, Address, Cidr, prefixes, print_address, print_cidr};

@@ -8,16 +8,12 @@ use Rattle.std.proofs.lemmas.Option.{slice_get-get_or, none-some}
 use Rattle.std.specs.List.{list_any, slice_get}
 use Rattle.std.specs.Option.{option_map}
 use Rattle.std.proofs.Math.Bool.{and-false}
-use Rattle.np_conns.specs.Conns.{same_proto}
-use Rattle.np_routes.specs.Types.{AskedService, PortName, PortSet, ServiceItem, Tcp}
+use Rattle.np_conns.specs.Prelude.{same_proto}
+use Rattle.np_routes.specs.Prelude.{AskedService, PortName, PortSet, ServiceItem, Tcp, asked_leads, asked_port_leads, has_own, has_port, is_backend_port, is_named_by, is_same_port, is_target, leads_to, routes_through, serves, services_of}
 use Rattle.np_routes.proofs.AnyLemmas.{and-or, list_any-none, list_any-or, list_any-set}
 use Rattle.np_routes.proofs.PortSetLemmas.{own-added, own-none}
 use Rattle.np_routes.proofs.TargetLemmas.{through-served, through-unserved}
-use Rattle.np_routes.specs.Routes.{leads_to, routes_through}
-use Rattle.np_routes.specs.Services.{is_backend_port, is_named_by, is_target, serves}
-use Rattle.np_routes.specs.steps.AskedServices.{asked_leads, asked_port_leads, services_of}
-use Rattle.np_routes.specs.steps.PortSets.{has_own, has_port, is_same_port}
-use Rattle.np_rules.specs.model.Ends.{PodEnd}
+use Rattle.np_rules.specs.Prelude.{PodEnd}
 
 module _ (p : PodEnd) (number : ℕ) where
   -- what one backend more names leads where it did, or where the backend leads

@@ -6,15 +6,13 @@ use Rattle.std.specs.List.{list_any}
 use Rattle.std.specs.Str.{bytes_eq}
 use Rattle.std.proofs.lemmas.Bool.{and_parts}
 use Rattle.std.proofs.lemmas.Option.{none-some}
-use Rattle.np_routes.specs.Types.{Backend, EstateLists, PlacedIngress, ServiceItem}
+use Rattle.np_routes.specs.Prelude.{Backend, EstateLists, PlacedIngress, ServiceItem, is_in_namespace, is_service, leads_to, routes_in, routes_of_ingress, routes_through, service_named}
 use Rattle.np_model.specs.declared.ingress.Backend.TheVariants as backend
 use Rattle.np_routes.proofs.AnyLemmas.{list_any-none, list_any-same}
 use Rattle.np_routes.proofs.RouteLemmas.{backend_leads, by_backends, by_ingresses, ingress_leads, list_any-flat_map}
 use Rattle.np_routes.proofs.TargetLemmas.{serves-outside, through-unserved}
-use Rattle.np_routes.specs.Routes.{is_in_namespace, leads_to, routes_in, routes_of_ingress, routes_through}
-use Rattle.np_routes.specs.Services.{is_service, service_named}
 use Rattle.np_rules.proofs.PlacesLemmas.{list_any-next}
-use Rattle.np_rules.specs.model.Ends.{PodEnd}
+use Rattle.np_rules.specs.Prelude.{PodEnd}
 
 -- what is found passes
 find-passes : {X : Type 0} (test : X → Bool) (xs : List X) (x : X) → find test xs ≡ Some x → test x ≡ true

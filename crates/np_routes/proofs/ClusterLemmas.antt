@@ -5,23 +5,18 @@ use Rattle.std.proofs.lemmas.Bool.{and_parts, eqb-true, false≢true, ne_eqb}
 use Rattle.std.proofs.lemmas.List.{length-map}
 use Rattle.std.proofs.lemmas.List.Elements.{All-weaker, filter-append, filter_passes}
 use Rattle.std.proofs.Math.Bool.{or-false}
-use Rattle.np_routes.specs.Types.{Controller, Egress, EstateLists, Family, Ingress, PortSpot, Row, RowEnd, RowKey, Sctp, Span, Tcp, Udp, Work}
+use Rattle.np_routes.specs.Prelude.{ClusterTable, Controller, Egress, EstateLists, Family, Ingress, PortSpot, Row, RowEnd, RowKey, Sctp, Span, Tcp, Udp, Work, all_ingress_rows, cluster_rows, cluster_table, ingress_allows, ingress_key, ingress_reaches, ingress_row, is_controller, is_from_controller, is_ingress_controller, rows_from_controller, sender_of}
 use Rattle.np_base.specs.Ranges.{holds}
 use Rattle.np_base.specs.declared.range.Range.{Range}
-use Rattle.np_conns.specs.Conns.{Conns, has_spot, is_spot, ranges_of}
-use Rattle.np_model.specs.Lawful.{IsLawful}
-use Rattle.np_fold.specs.Workloads.{Folding, Workload, folding_of, number_of}
+use Rattle.np_conns.specs.Prelude.{Conns, has_spot, is_spot, ranges_of}
+use Rattle.np_model.specs.Prelude.{IsLawful}
+use Rattle.np_fold.specs.Prelude.{Folding, Workload, folding_of, number_of}
 use Rattle.np_model.specs.declared.direction.Direction.{Direction}
 use Rattle.np_routes.proofs.ReachedLemmas.{number-workload, reaches-allows}
-use Rattle.np_routes.specs.ClusterTable.{ClusterTable, all_ingress_rows, cluster_rows, cluster_table, ingress_key, ingress_row, is_from_controller, is_ingress_controller, rows_from_controller}
-use Rattle.np_routes.specs.Controllers.{ingress_allows, ingress_reaches, is_controller, sender_of}
 use Rattle.np_table.proofs.RowLemmas.{HasKey, filter-by, filter-flat_map, filter-map_none, pair_rows-key, range-none, range-only}
 use Rattle.np_table.proofs.SetLemmas.{has_spot-conns_of}
-use Rattle.np_table.specs.Right.{conns_of}
-use Rattle.np_table.specs.Rows.{address_rows, all_address_rows, all_pair_rows, all_rows, is_none, is_nothing, pair_key, pair_rows, row_if, row_of, rows_towards, workloads}
-use Rattle.np_table.specs.Said.{allows_in, is_between, is_of_address, is_workload, rows_between, rows_of_address}
-use Rattle.np_kinds.specs.Between.{IsWorkload, number_of_workloads}
-use Rattle.np_table.specs.Table.{Table, table_of, estate_table}
+use Rattle.np_table.specs.Prelude.{Table, address_rows, all_address_rows, all_pair_rows, all_rows, allows_in, conns_of, estate_table, is_between, is_none, is_nothing, is_of_address, is_workload, pair_key, pair_rows, row_if, row_of, rows_between, rows_of_address, rows_towards, table_of, workloads}
+use Rattle.np_kinds.specs.Prelude.{IsWorkload, number_of_workloads}
 
 -- ---- a row from the controller
 

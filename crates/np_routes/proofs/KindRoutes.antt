@@ -5,34 +5,23 @@ use Rattle.std.specs.List.{AllByRecursion, find, list_any}
 use Rattle.std.specs.Option.{option_map_or}
 use Rattle.std.specs.Str.{bytes_eq}
 use Rattle.np_base.proofs.Each.{All-parts, All-append}
-use Rattle.np_routes.specs.Types.{Backend, EstateLists, Four, Ingress, Named, NamedPort, Number, Pod, PortName, PortSpot, ServiceItem, ServicePort, Tcp}
-use Rattle.np_conns.specs.Conns.{same_proto}
-use Rattle.np_model.specs.Families.{families_of}
-use Rattle.np_model.specs.Lawful.{IsLawful}
+use Rattle.np_routes.specs.Prelude.{Backend, EstateLists, Four, Ingress, Named, NamedPort, Number, Pod, PortName, PortSpot, Route, ServiceItem, ServicePort, Tcp, any_controller, ingress_reaches, is_backend_port, is_in_namespace, is_pod_port, is_routed, is_service, is_target, leads_to, may_send, routes_in, routes_of_backend, routes_of_ingress, routes_through, serves, service_named, unlabelled_may_send}
+use Rattle.np_conns.specs.Prelude.{same_proto}
+use Rattle.np_model.specs.Prelude.{IsLawful, families_of}
 use Rattle.np_fold.proofs.NamespaceLemmas.{labels_agree}
 use Rattle.np_fold.proofs.WorkloadLemmas.{one_workload}
-use Rattle.np_fold.specs.Alike.{IsSameKind}
-use Rattle.np_fold.specs.Keys.{keys_of_admin_policy, keys_of_baseline, keys_of_estate, keys_of_net_policy, keys_of_optional, keys_of_service}
-use Rattle.np_fold.specs.Workloads.{number_of}
+use Rattle.np_fold.specs.Prelude.{IsSameKind, keys_of_admin_policy, keys_of_baseline, keys_of_estate, keys_of_net_policy, keys_of_optional, keys_of_service, number_of}
 use Rattle.np_fold.proofs.SelectorLemmas.{selector-agree}
-use Rattle.np_labels.specs.Selectors.{meets_selector}
+use Rattle.np_labels.specs.Prelude.{AgreeOn, meets_selector}
 use Rattle.np_labels.specs.declared.selector.Selector.{Selector}
-use Rattle.np_labels.specs.Labels.{AgreeOn}
 use Rattle.np_labels.proofs.Agreed.{All-from_listed}
 use Rattle.np_model.specs.declared.ingress.Backend.TheVariants as backend
-use Rattle.np_routes.specs.Controllers.{any_controller, unlabelled_may_send, ingress_reaches, may_send}
-use Rattle.np_routes.specs.Routes.{Route, is_in_namespace, is_routed, leads_to, routes_in, routes_of_backend, routes_of_ingress, routes_through}
-use Rattle.np_routes.specs.Services.{is_backend_port, is_pod_port, is_service, is_target, service_named, serves}
 use Rattle.np_rules.proofs.DeciderLemmas.{decider_says}
-use Rattle.np_rules.specs.Deciders.{decider_allows}
-use Rattle.np_rules.specs.model.Ends.{Contact, End, PodEnd, contact, pod, pod_end, stranger_end}
-use Rattle.np_rules.specs.model.PortEntries.{is_named}
-use Rattle.np_rules.specs.model.Verdict.{no_pod, pod_at}
+use Rattle.np_rules.specs.Prelude.{Contact, End, PodEnd, contact, decider_allows, is_named, no_pod, pod, pod_at, pod_end, stranger_end}
 use Rattle.np_rules.proofs.EachItem.{All-each, All-flat, list_any-same}
 use Rattle.np_kinds.proofs.KindVerdicts.{SameKindEnd-ends, got-same, packet-same}
 use Rattle.np_kinds.proofs.PairLemmas.{pod_there}
-use Rattle.np_kinds.specs.Ends.{AreOneKind}
-use Rattle.np_kinds.specs.Between.{between_pods}
+use Rattle.np_kinds.specs.Prelude.{AreOneKind, between_pods}
 
 -- ---- items of lists
 

@@ -10,12 +10,10 @@ use Rattle.std.specs.Str.{bytes_eq}
 use Rattle.std.proofs.lemmas.Map.Text.{is_eq-slice_cmp}
 use Rattle.std.proofs.Math.Bool.{or-false}
 use Rattle.np_base.proofs.Bools.{or-last, or-leftwards, eq-swap}
-use Rattle.np_conns.specs.Conns.{same_proto}
-use Rattle.np_routes.specs.Types.{Named, Number, PortName, PortSet, ServicePort, Tcp}
+use Rattle.np_conns.specs.Prelude.{same_proto}
+use Rattle.np_routes.specs.Prelude.{Named, Number, PortName, PortSet, ServicePort, Tcp, at_pod, has_own, has_port, has_text, held_at, is_named_by, is_named_in, is_pod_port, is_same_port}
 use Rattle.np_routes.proofs.AnyLemmas.{bytes-swap, list_any-none, list_any-or, list_any-same, or-swap}
-use Rattle.np_routes.specs.Services.{is_named_by, is_pod_port}
-use Rattle.np_routes.specs.steps.PortSets.{at_pod, has_own, has_port, has_text, held_at, is_named_in, is_same_port}
-use Rattle.np_rules.specs.model.Ends.{PodEnd}
+use Rattle.np_rules.specs.Prelude.{PodEnd}
 
 -- ---- what is added
 

@@ -7,23 +7,17 @@ use Rattle.std.proofs.Math.Nat.{mul-le-mul_right}
 use Rattle.std.proofs.lemmas.List.{get_or_default}
 use Rattle.std.proofs.lemmas.List.Folds.{list_any-append, list_any_more}
 use Rattle.std.proofs.Math.Bool.{or-false}
-use Rattle.np_routes.specs.Types.{Egress, EstateLists, Family, Four, Ingress, Pod, PortSpot, Sender, Six}
-use Rattle.np_conns.specs.Conns.{Conns, IsConns, has_spot, is_spot}
-use Rattle.np_model.specs.Families.{families_of, has_family, or_four}
-use Rattle.np_model.specs.Lawful.{IsLawful}
+use Rattle.np_routes.specs.Prelude.{Egress, EstateLists, Family, Four, Ingress, Pod, PortSpot, Sender, Six, ingress_allows, ingress_reaches, ingress_steps, is_controller, is_routed, may_send, reaches, send_steps, sender_for, sender_of, sends}
+use Rattle.np_conns.specs.Prelude.{Conns, IsConns, has_spot, is_spot}
+use Rattle.np_model.specs.Prelude.{IsLawful, families_of, has_family, or_four}
 use Rattle.np_fold.proofs.WorkloadLemmas.{number-in_workloads}
-use Rattle.np_fold.specs.Workloads.{folding_of, members_of, number_of}
+use Rattle.np_fold.specs.Prelude.{folding_of, members_of, number_of}
 use Rattle.np_routes.proofs.KindRoutes.{one_workload-alike, reaches-same}
-use Rattle.np_routes.specs.Controllers.{ingress_allows, ingress_reaches, ingress_steps, is_controller, may_send, sender_of}
-use Rattle.np_routes.specs.Routes.{is_routed}
-use Rattle.np_routes.specs.steps.Senders.{reaches, send_steps, sender_for, sends}
-use Rattle.np_rules.specs.PodSides.{side_of, side_rule_count}
-use Rattle.np_rules.specs.model.Verdict.{pod_at}
+use Rattle.np_rules.specs.Prelude.{pod_at, side_of, side_rule_count}
 use Rattle.np_kinds.proofs.MemberLemmas.{member-number, members-some, members-within, own-member, source-member}
 use Rattle.np_table.proofs.SetLemmas.{conns_of-set, has_spot-conns_of}
-use Rattle.np_kinds.specs.Kinds.{first_side}
-use Rattle.np_table.specs.Right.{conns_of}
-use Rattle.np_kinds.specs.Between.{IsWorkload, source_pod}
+use Rattle.np_kinds.specs.Prelude.{IsWorkload, first_side, source_pod}
+use Rattle.np_table.specs.Prelude.{conns_of}
 
 -- ---- the sender
 

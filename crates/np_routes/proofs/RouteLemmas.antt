@@ -5,12 +5,10 @@ use Rattle.std.specs.Cmp.Lexicographic.{bytes_decides}
 use Rattle.std.specs.List.{list_any}
 use Rattle.std.proofs.lemmas.Bool.{and_from, and_left, and_parts, false≢true}
 use Rattle.std.proofs.lemmas.List.Folds.{Any-from_list_any, list_any-append, list_any-from_Any}
-use Rattle.np_conns.specs.Conns.{same_proto}
-use Rattle.np_routes.specs.Types.{Backend, EstateLists, PlacedIngress, PortName, PortSpot, Proto, Sctp, ServiceItem, ServicePort, Tcp, Udp}
+use Rattle.np_conns.specs.Prelude.{same_proto}
+use Rattle.np_routes.specs.Prelude.{Backend, EstateLists, LeadsTo, PlacedIngress, PortName, PortSpot, Proto, Sctp, ServiceItem, ServicePort, Tcp, Udp, is_backend_port, is_in_namespace, is_routed, is_target, leads_to, routes_in, routes_of_backend, routes_of_ingress, routes_through, serves, service_named}
 use Rattle.np_model.specs.declared.ingress.Backend.TheVariants as backend
-use Rattle.np_routes.specs.Routes.{LeadsTo, is_in_namespace, is_routed, leads_to, routes_in, routes_of_backend, routes_of_ingress, routes_through}
-use Rattle.np_routes.specs.Services.{is_backend_port, is_target, service_named, serves}
-use Rattle.np_rules.specs.model.Ends.{PodEnd}
+use Rattle.np_rules.specs.Prelude.{PodEnd}
 
 -- ---- lists of which some item passes
 

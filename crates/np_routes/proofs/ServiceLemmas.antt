@@ -10,9 +10,7 @@ use Rattle.std.proofs.lemmas.List.{take_more}
 use Rattle.std.proofs.lemmas.List.Folds.{find-append}
 use Rattle.std.proofs.lemmas.Map.Text.{is_eq-slice_cmp}
 use Rattle.std.proofs.lemmas.Option.{slice_get-get_or}
-use Rattle.np_routes.specs.Types.{ServiceItem}
-use Rattle.np_routes.specs.Services.{is_service, service_named}
-use Rattle.np_routes.specs.steps.ServicesByName.{IsPlaceOf, place_at}
+use Rattle.np_routes.specs.Prelude.{IsPlaceOf, ServiceItem, is_service, place_at, service_named}
 use Rattle.np_routes.proofs.PortSetLemmas.{lent}
 
 -- the order of two keys

@@ -1,8 +1,8 @@
 -- Stretches in a right list. For crates above.
 use Rattle.std.proofs.Common.{ℕ, ◌+◌, ◌≤◌, List, [], ◌∷◌, Bool, Option, Some, arith}
-use Rattle.np_table.specs.Right.{AreRight, Stretch}
-use Rattle.np_conns.specs.Conns.{Conns}
-use Rattle.np_routes.specs.Types.{PortSpot}
+use Rattle.np_table.specs.Prelude.{AreRight, Stretch}
+use Rattle.np_conns.specs.Prelude.{Conns}
+use Rattle.np_routes.specs.Prelude.{PortSpot}
 
 -- they do not end before they begin
 pub right-within : (passes : ℕ → PortSpot → Bool) (from to : ℕ) (before : Option Conns) (stretches : List Stretch) → AreRight passes from to before stretches → from ≤ to

@@ -8,17 +8,12 @@ use Rattle.std.proofs.lemmas.Bool.{false≢true}
 use Rattle.std.proofs.lemmas.List.Folds.{list_any-append, list_any_more}
 use Rattle.std.proofs.Math.Bool.{or-false, and-false, or_assoc}
 use Rattle.np_base.proofs.Bools.{eq-swap}
-use Rattle.np_conns.specs.Conns.{same_proto}
-use Rattle.np_routes.specs.Types.{AskedService, Named, NamedPort, Number, PortName, PortSet, Proto, Sctp, ServiceItem, ServicePort, ServiceTargets, Tcp, Udp}
-use Rattle.np_labels.specs.Selectors.{meets_selector}
+use Rattle.np_conns.specs.Prelude.{same_proto}
+use Rattle.np_routes.specs.Prelude.{AskedService, Named, NamedPort, Number, PortName, PortSet, Proto, Sctp, ServiceItem, ServicePort, ServiceTargets, Tcp, Udp, asked_leads, asked_port_leads, at_pod, has_own, has_port, is_backend_port, is_named_in, is_pod_port, is_same_port, is_target, leads_to, routes_through, serves, target_leads}
+use Rattle.np_labels.specs.Prelude.{meets_selector}
 use Rattle.np_routes.proofs.PortSetLemmas.{at_pod-joined}
 use Rattle.np_routes.proofs.RouteLemmas.{through-ports}
-use Rattle.np_routes.specs.Routes.{leads_to, routes_through}
-use Rattle.np_routes.specs.Services.{is_backend_port, is_pod_port, is_target, serves}
-use Rattle.np_routes.specs.steps.AskedServices.{asked_leads, asked_port_leads}
-use Rattle.np_routes.specs.steps.PortSets.{at_pod, has_own, has_port, is_named_in, is_same_port}
-use Rattle.np_routes.specs.steps.TargetsByNamespace.{target_leads}
-use Rattle.np_rules.specs.model.Ends.{PodEnd}
+use Rattle.np_rules.specs.Prelude.{PodEnd}
 
 -- whether some port of a service that a backend names leads to the number, where the service serves the pod or not
 abbrev some_leads : Bool → PodEnd → ℕ → PortName → ServiceItem → List ServicePort → Bool

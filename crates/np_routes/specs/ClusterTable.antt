@@ -1,12 +1,9 @@
 -- The table of a cluster: what passes between workloads, between them and addresses, and to them through ingresses.
 use Rattle.std.specs.Prelude.{ℕ, List, ◌++◌, Bool, true, false, ◌&&◌, filter, flat_map, Option, None}
 use Rattle.np_routes.specs.Types.{Controller, EstateLists, PortSpot, Row, RowEnd, RowKey, Work}
-use Rattle.np_fold.specs.Workloads.{folding_of}
+use Rattle.np_fold.specs.Prelude.{folding_of}
 use Rattle.np_routes.specs.Controllers.{ingress_allows}
-use Rattle.np_table.specs.Right.{conns_of}
-use Rattle.np_table.specs.Rows.{all_rows, row_if, workloads}
-use Rattle.np_table.specs.Said.{is_workload}
-use Rattle.np_table.specs.Table.{Table, estate_table}
+use Rattle.np_table.specs.Prelude.{Table, all_rows, conns_of, estate_table, is_workload, row_if, workloads}
 
 -- The table of an estate, and which ports of each workload are reached through ingresses.
 pub record ClusterTable : Type 0 where

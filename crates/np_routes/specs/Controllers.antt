@@ -3,16 +3,12 @@ use Rattle.std.specs.Prelude.{ℕ, ◌*◌, [], ◌∷◌, Bool, false, ◌&&◌
 use Rattle.std.specs.List.{list_any}
 use Rattle.std.specs.Option.{option_map_or}
 use Rattle.np_routes.specs.Types.{EstateLists, Four, Ingress, PortSpot, Stranger}
-use Rattle.np_model.specs.Families.{families_of}
-use Rattle.np_fold.specs.Workloads.{Folding}
+use Rattle.np_model.specs.Prelude.{families_of}
+use Rattle.np_fold.specs.Prelude.{Folding}
 use Rattle.np_routes.specs.Routes.{is_routed}
-use Rattle.np_rules.specs.model.Ends.{PodEnd, contact, pod, stranger_end}
-use Rattle.np_rules.specs.PodSides.{side_rule_count}
-use Rattle.np_rules.specs.model.Sides.{side_allows}
-use Rattle.np_rules.specs.model.Verdict.{pod_at}
-use Rattle.np_kinds.specs.Kinds.{first_side}
-use Rattle.np_table.specs.PairRules.{rules_of_pair}
-use Rattle.np_kinds.specs.Between.{between_pods, source_pod}
+use Rattle.np_rules.specs.Prelude.{PodEnd, contact, pod, pod_at, side_allows, side_rule_count, stranger_end}
+use Rattle.np_kinds.specs.Prelude.{between_pods, first_side, source_pod}
+use Rattle.np_table.specs.Prelude.{rules_of_pair}
 
 -- ---- a controller that is not known
 

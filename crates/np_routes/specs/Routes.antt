@@ -2,12 +2,12 @@
 use Rattle.std.specs.Prelude.{ℕ, ◌≡◌, List, [], Bool, true, ◌&&◌, map, filter, flat_map, Contains, Option, Some, None}
 use Rattle.std.specs.List.{list_any}
 use Rattle.std.specs.Str.{bytes_eq}
-use Rattle.np_conns.specs.Conns.{same_proto}
+use Rattle.np_conns.specs.Prelude.{same_proto}
 use Rattle.np_routes.specs.Types.{Backend, EstateLists, PlacedIngress, PortName, PortSpot, ServiceItem, ServicePort, Tcp}
 use Rattle.np_model.specs.declared.ingress.Backend.TheVariants as backend
 use Rattle.np_model.specs.declared.ingress.IngressItem.{IngressItem}
 use Rattle.np_routes.specs.Services.{is_backend_port, is_target, service_named, serves}
-use Rattle.np_rules.specs.model.Ends.{PodEnd}
+use Rattle.np_rules.specs.Prelude.{PodEnd}
 
 -- a service and one of its ports that a backend names
 pub record Route : Type 0 where

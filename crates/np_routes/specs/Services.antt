@@ -2,11 +2,10 @@
 use Rattle.std.specs.Prelude.{ℕ, List, Bool, false, ◌&&◌, ◌==◌, not, find, Option, if◌then◌else◌}
 use Rattle.std.specs.Option.{option_map_or}
 use Rattle.std.specs.Str.{bytes_eq}
-use Rattle.np_conns.specs.Conns.{same_proto}
+use Rattle.np_conns.specs.Prelude.{same_proto}
 use Rattle.np_routes.specs.Types.{Named, Number, PortName, ServiceItem, ServicePort, Tcp}
-use Rattle.np_labels.specs.Selectors.{meets_selector}
-use Rattle.np_rules.specs.model.Ends.{PodEnd, pod}
-use Rattle.np_rules.specs.model.PortEntries.{has_named}
+use Rattle.np_labels.specs.Prelude.{meets_selector}
+use Rattle.np_rules.specs.Prelude.{PodEnd, has_named, pod}
 
 -- ---- services
 

@@ -3,7 +3,7 @@ ghost use Rattle.std.specs.Prelude.{◌≡◌, ◌||◌, false, ℕ, IfOk, OnOk,
 ghost use Rattle.std.specs.List.{list_any};
 ghost use Rattle.np_routes.specs.Routes as spec;
 ghost use Rattle.np_routes.specs.steps.AskedServices.{asked_leads, services_of};
-ghost use Rattle.np_rules.specs.model.Ends.{PodEnd};
+ghost use Rattle.np_rules.specs.Prelude.{PodEnd};
 
 use crate::port_set::PortSet;
 use crate::services::Services;

@@ -6,8 +6,7 @@ ghost use Rattle.std.specs.Str.{bytes_eq};
 ghost use Rattle.np_routes.specs.Routes as spec;
 ghost use Rattle.np_routes.specs.steps.AskedServices.{asked_leads};
 ghost use Rattle.np_routes.specs.steps.TargetsByNamespace.{target_leads, targets_in};
-ghost use Rattle.np_rules.specs.model.Ends.{PodEnd, pod_end};
-ghost use Rattle.np_rules.specs.model.Verdict.{pod_at};
+ghost use Rattle.np_rules.specs.Prelude.{PodEnd, pod_at, pod_end};
 
 use crate::asked_services::{AskedService, asked_services};
 use crate::service_targets::ServiceTargets;

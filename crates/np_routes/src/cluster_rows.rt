@@ -1,12 +1,12 @@
 //! The rows of the table of a cluster, one after another.
 ghost use Rattle.std.specs.Prelude.{◌≡◌, ◌≤◌, ◌+◌, ◌*◌, ◌∷◌, ◌++◌, [], None, IfOk, IfSome, MatchOption, OnErr, OnOk, length};
 ghost use Rattle.std.specs.Option.{option_to_list};
-ghost use Rattle.np_fold.specs.Workloads.{folding_of};
+ghost use Rattle.np_fold.specs.Prelude.{folding_of};
 ghost use Rattle.np_routes.specs.ClusterTable as spec;
 ghost use Rattle.np_routes.specs.Controllers.{ingress_steps};
 ghost use Rattle.np_routes.specs.steps.IngressRows.{due_left, rows_left};
-ghost use Rattle.np_kinds.specs.Between.{IsWorkload};
-ghost use Rattle.np_table.specs.ToCome.{most_rules};
+ghost use Rattle.np_kinds.specs.Prelude.{IsWorkload};
+ghost use Rattle.np_table.specs.Prelude.{most_rules};
 
 use crate::routes::Routes;
 use np_base::{Cells, NoMemory, Steps};

@@ -1,20 +1,17 @@
 //! What follows from the definitions. Each law is the contract of a call that does nothing.
 ghost use Rattle.std.specs.Prelude.{◌≡◌, ◌≢◌, ◌<◌, ◌≤◌, ◌↔◌, ℕ, Option, true, false, length};
 ghost use Rattle.np_addr.specs.declared.address.Family.{Family};
-ghost use Rattle.np_conns.specs.Conns.{is_spot};
+ghost use Rattle.np_conns.specs.Prelude.{is_spot};
 ghost use Rattle.np_conns.specs.declared.port_spot.PortSpot.{PortSpot};
 ghost use Rattle.np_conns.specs.declared.proto.Proto.TheVariants.{Tcp};
-ghost use Rattle.np_model.specs.Lawful.{IsLawful};
+ghost use Rattle.np_model.specs.Prelude.{IsLawful};
 ghost use Rattle.np_model.specs.declared.lists.EstateLists.{EstateLists};
-ghost use Rattle.np_fold.specs.Workloads.{folding_of, number_of};
+ghost use Rattle.np_fold.specs.Prelude.{folding_of, number_of};
 ghost use Rattle.np_model.specs.declared.direction.Direction.{Direction};
-ghost use Rattle.np_routes.specs.ClusterTable.{ClusterTable, cluster_rows, cluster_table, rows_from_controller};
-ghost use Rattle.np_routes.specs.Controllers.{ingress_allows, ingress_reaches, is_controller, sender_of};
-ghost use Rattle.np_routes.specs.Routes.{LeadsTo, is_routed};
-ghost use Rattle.np_rules.specs.model.Ends.{PodEnd};
-ghost use Rattle.np_table.specs.Rows.{all_rows};
-ghost use Rattle.np_table.specs.Said.{allows_in, rows_between, rows_of_address};
-ghost use Rattle.np_kinds.specs.Between.{IsWorkload};
+ghost use Rattle.np_routes.specs.Prelude.{ClusterTable, LeadsTo, cluster_rows, cluster_table, ingress_allows, ingress_reaches, is_controller, is_routed, rows_from_controller, sender_of};
+ghost use Rattle.np_rules.specs.Prelude.{PodEnd};
+ghost use Rattle.np_table.specs.Prelude.{all_rows, allows_in, rows_between, rows_of_address};
+ghost use Rattle.np_kinds.specs.Prelude.{IsWorkload};
 
 /// A route leads to a TCP port of a pod exactly where the API says so: an ingress of the pod's namespace has a backend that
 /// names a listed service and one of its TCP ports, the service serves the pod, and the port leads to the number there. To

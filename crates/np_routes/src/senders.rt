@@ -1,13 +1,13 @@
 //! The end that sends what comes through ingresses.
 ghost use Rattle.std.specs.Prelude.{◌≡◌, ◌≤◌, ◌+◌, ◌*◌, true, IfOk, IfSome, length};
 ghost use Rattle.std.specs.List.{list_any};
-ghost use Rattle.np_conns.specs.Conns.{IsConns, has_spot, is_spot};
+ghost use Rattle.np_conns.specs.Prelude.{IsConns, has_spot, is_spot};
 ghost use Rattle.np_conns.specs.declared.port_spot.PortSpot.{PortSpot};
 ghost use Rattle.np_routes.specs.Controllers as controllers;
 ghost use Rattle.np_routes.specs.steps.Senders as spec;
-ghost use Rattle.np_rules.specs.PodSides.{side_rule_count};
-ghost use Rattle.np_table.specs.PairRules.{AreEnds};
-ghost use Rattle.np_kinds.specs.Between.{IsWorkload, between_pods};
+ghost use Rattle.np_rules.specs.Prelude.{side_rule_count};
+ghost use Rattle.np_table.specs.Prelude.{AreEnds};
+ghost use Rattle.np_kinds.specs.Prelude.{IsWorkload, between_pods};
 
 use np_addr::Family;
 use np_base::{NoMemory, Seq, Steps, Text, join_all};

@@ -4,7 +4,7 @@ ghost use Rattle.std.specs.List.{list_any};
 ghost use Rattle.np_routes.specs.Services as spec;
 ghost use Rattle.np_routes.specs.steps.AskedServices.{asked_port_leads};
 ghost use Rattle.np_routes.specs.steps.PortSets.{at_pod};
-ghost use Rattle.np_rules.specs.model.Ends.{PodEnd};
+ghost use Rattle.np_rules.specs.Prelude.{PodEnd};
 
 use crate::asked_services::AskedService;
 use crate::port_set::PortSet;

@@ -1,16 +1,12 @@
 //! The TCP ports to which routes lead at a pod.
 ghost use Rattle.std.specs.Prelude.{◌≡◌, ◌<◌, ◌&&◌, ◌||◌, true, ℕ, IfOk, OnOk, length};
 ghost use Rattle.std.specs.List.{list_any};
-ghost use Rattle.np_conns.specs.Conns.{IsConns, has_spot, same_proto};
+ghost use Rattle.np_conns.specs.Prelude.{IsConns, has_spot, same_proto};
 ghost use Rattle.np_conns.specs.declared.port_spot.PortSpot.{PortSpot};
 ghost use Rattle.np_conns.specs.declared.proto.Proto.TheVariants.{Tcp};
 ghost use Rattle.np_model.specs.declared.service.PortName.TheVariants.{Number};
-ghost use Rattle.np_routes.specs.Routes.{is_routed};
-ghost use Rattle.np_routes.specs.steps.PortSets.{at_pod, has_port, is_named_in};
-ghost use Rattle.np_routes.specs.steps.Targets.{has_target};
-ghost use Rattle.np_routes.specs.steps.TargetsByNamespace.{target_leads};
-ghost use Rattle.np_rules.specs.model.Ends.{pod_end};
-ghost use Rattle.np_rules.specs.model.Verdict.{pod_at};
+ghost use Rattle.np_routes.specs.Prelude.{at_pod, has_port, has_target, is_named_in, is_routed, target_leads};
+ghost use Rattle.np_rules.specs.Prelude.{pod_at, pod_end};
 
 use crate::backends::Backends;
 use crate::port_set::PortSet;

@@ -4,22 +4,16 @@ use Rattle.std.proofs.Common.{◌≡◌, ℕ, ◌+◌, ◌-◌, ◌^◌, ◌<◌
 use Rattle.std.specs.List.{list_any}
 use Rattle.std.proofs.lemmas.Bool.Decides.{nat_tests}
 use Rattle.std.proofs.lemmas.Bool.{and_left, and_parts}
-use Rattle.np_addr.specs.Addresses.{IsAddress}
-use Rattle.np_addr.specs.Blocks.{AddressRanges, set_has}
-use Rattle.np_rules.specs.Types.{Address, AdminRule, At, Direction, First, NetPeer, NetRule, Piece, PortSpot, Second, Six, Which}
+use Rattle.np_addr.specs.Prelude.{AddressRanges, IsAddress, set_has}
+use Rattle.np_rules.specs.Prelude.{Address, AddressSpot, AdminRule, At, Direction, End, First, NetPeer, NetRule, Piece, PortSpot, Second, Six, Which, address, address_contact, address_of, admin_entry_matches, admin_peer_has, admin_rule_matches, destination_of, has_address_spot, is_address_spot, net_entry_matches, net_peer_has, net_peer_matches, net_rule_matches, none_or_any, spot_of}
 use Rattle.np_addr.specs.declared.address.Address.TheVariants.{Four}
 use Rattle.np_addr.proofs.BlockLemmas.{ranges_have}
 use Rattle.np_base.specs.Beside.{by_side}
 use Rattle.np_base.specs.Ranges.{holds}
 use Rattle.np_base.proofs.Lists.{list_any-agrees}
-use Rattle.np_conns.specs.Conns.{Conns, has_spot, is_spot}
+use Rattle.np_conns.specs.Prelude.{Conns, has_spot, is_spot}
 use Rattle.np_pieces.specs.Pieces as pieces
 use Rattle.np_model.specs.declared.network_policy.NetPeer.TheVariants as net
-use Rattle.np_rules.specs.model.Ends.{End, address, destination_of}
-use Rattle.np_rules.specs.EveryAddress.{AddressSpot, address_contact, address_of, admin_peer_has, has_address_spot, is_address_spot, net_peer_has, spot_of}
-use Rattle.np_rules.specs.model.Peers.{net_peer_matches}
-use Rattle.np_rules.specs.model.PortEntries.{admin_entry_matches, net_entry_matches}
-use Rattle.np_rules.specs.model.Rules.{admin_rule_matches, net_rule_matches, none_or_any}
 use Rattle.np_sets.specs.Space.{is_between}
 
 -- an address is in the joined set where it is in either

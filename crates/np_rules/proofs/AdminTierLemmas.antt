@@ -7,13 +7,8 @@ use Rattle.std.proofs.lemmas.Bool.{and_parts, ltb-true}
 use Rattle.std.proofs.Math.Seq.{take-length}
 use Rattle.np_base.proofs.Each.{All-weaker, All-append}
 use Rattle.np_base.proofs.Options.{option_map-or}
-use Rattle.np_model.specs.Lawful.{ascends, HasAscendingPriorities}
-use Rattle.np_rules.specs.Types.{Action, AdminPolicy, AdminRule, Direction}
-use Rattle.np_rules.specs.model.AdminTier.{least_by, sooner, admin_precedes, admin_decider}
-use Rattle.np_rules.specs.model.Ends.{Contact, PodEnd}
-use Rattle.np_rules.specs.model.Places.{PlacedAdminRule, admin_places, admin_places_of, admin_rules_of}
-use Rattle.np_rules.specs.model.Rules.{admin_rule_matches}
-use Rattle.np_rules.specs.model.Selection.{subject_selects}
+use Rattle.np_model.specs.Prelude.{HasAscendingPriorities, ascends}
+use Rattle.np_rules.specs.Prelude.{Action, AdminPolicy, AdminRule, Contact, Direction, PlacedAdminRule, PodEnd, admin_decider, admin_places, admin_places_of, admin_precedes, admin_rule_matches, admin_rules_of, least_by, sooner, subject_selects}
 use Rattle.np_rules.proofs.PlacesLemmas.{find-next, find-numbered, if_both, counted, length-numbered}
 
 -- ---- lists in order

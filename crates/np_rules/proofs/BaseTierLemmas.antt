@@ -2,11 +2,7 @@
 use Rattle.std.proofs.Common.{◌≡◌, List, true, map, Option, Some, refl, ap, ◌∙◌}
 use Rattle.std.specs.List.{find}
 use Rattle.std.specs.Option.{option_map}
-use Rattle.np_rules.specs.Types.{Action, AdminRule, BasePolicy, Direction}
-use Rattle.np_rules.specs.model.Ends.{Contact, PodEnd}
-use Rattle.np_rules.specs.model.Places.{PlacedBaseRule, base_places, base_rules_of}
-use Rattle.np_rules.specs.model.Rules.{admin_rule_matches}
-use Rattle.np_rules.specs.model.Selection.{subject_selects}
+use Rattle.np_rules.specs.Prelude.{Action, AdminRule, BasePolicy, Contact, Direction, PlacedBaseRule, PodEnd, admin_rule_matches, base_places, base_rules_of, subject_selects}
 use Rattle.np_rules.proofs.PlacesLemmas.{find-map, map-numbered}
 
 -- the rules of a baseline that selects the pod

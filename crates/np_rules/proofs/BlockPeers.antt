@@ -2,14 +2,12 @@
 use Rattle.std.proofs.Common.{◌≡◌, List, [], ◌∷◌, Bool, true, false, ◌&&◌, ◌||◌, refl, sym, ap, ◌∙◌, arith}
 use Rattle.std.specs.List.{list_any}
 use Rattle.std.proofs.Math.Bool.{or-false, and-false}
-use Rattle.np_addr.specs.Addresses.{cidr_has}
-use Rattle.np_rules.specs.Types.{Address, Cidr, Family}
+use Rattle.np_addr.specs.Prelude.{cidr_has, some_has}
+use Rattle.np_rules.specs.Prelude.{Address, Cidr, Family, is_block_of, some_inside}
 use Rattle.np_addr.specs.declared.address.Address.TheVariants as at
 use Rattle.np_addr.specs.declared.address.Family.TheVariants as of
 use Rattle.np_addr.specs.declared.cidr.Cidr.TheVariants as block
-use Rattle.np_addr.specs.Prefixes.{some_has}
-use Rattle.np_model.specs.Families.{is_of, same_family}
-use Rattle.np_rules.specs.BlockFamilies.{is_block_of, some_inside}
+use Rattle.np_model.specs.Prelude.{is_of, same_family}
 
 and_false : (x y : Bool) → (x && false) ≡ (y && false)
 and_false true true = refl

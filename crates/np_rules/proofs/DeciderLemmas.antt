@@ -5,16 +5,7 @@ use Rattle.std.specs.List.{AllByRecursion, list_any}
 use Rattle.std.proofs.lemmas.Bool.Decides.{nat_tests}
 use Rattle.np_base.proofs.Each.{All-weaker}
 use Rattle.np_base.proofs.Options.{some_is}
-use Rattle.np_rules.specs.Types.{Action, Allow, Decider, Deny, Direction, EstateLists, Pass, RuleName}
-use Rattle.np_rules.specs.model.AdminTier.{admin_decider, admin_precedes, least_by, sooner}
-use Rattle.np_rules.specs.model.BaseTier.{base_decider}
-use Rattle.np_rules.specs.Deciders.{action_decides, admin_decides, admin_rule_name, base_decides, decider, decider_allows, isolating_names, lower_decider, net_decider, net_decides, net_precedes}
-use Rattle.np_rules.specs.model.Ends.{Contact, End, PodEnd, pod, address}
-use Rattle.np_rules.specs.Laws.{IsAmong}
-use Rattle.np_rules.specs.model.NetTier.{is_isolated, permits, placed_net_matches}
-use Rattle.np_rules.specs.model.Places.{PlacedAdminRule, PlacedBaseRule, PlacedNetRule, net_places}
-use Rattle.np_rules.specs.model.Sides.{action_says, admin_says, base_says, lower_allows, side_allows}
-use Rattle.np_rules.specs.model.Verdict.{end_allows}
+use Rattle.np_rules.specs.Prelude.{Action, Allow, Contact, Decider, Deny, Direction, End, EstateLists, IsAmong, Pass, PlacedAdminRule, PlacedBaseRule, PlacedNetRule, PodEnd, RuleName, action_decides, action_says, address, admin_decider, admin_decides, admin_precedes, admin_rule_name, admin_says, base_decider, base_decides, base_says, decider, decider_allows, end_allows, is_isolated, isolating_names, least_by, lower_allows, lower_decider, net_decider, net_decides, net_places, net_precedes, permits, placed_net_matches, pod, side_allows, sooner}
 
 -- ---- what decides says what the side says
 

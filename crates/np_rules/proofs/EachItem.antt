@@ -2,7 +2,7 @@
 use Rattle.std.proofs.Common.{◌≡◌, ℕ, ◌+◌, List, [], ◌∷◌, ◌++◌, Bool, ◌&&◌, ◌||◌, map, filter, Some, refl, ap, ◌∙◌, if◌then◌else◌}
 use Rattle.std.specs.List.{AllByRecursion, enumerate_from, find, flat_map, list_all, list_any}
 use Rattle.np_base.proofs.Each.{All-parts}
-use Rattle.np_rules.specs.model.Rules.{none_or_any}
+use Rattle.np_rules.specs.Prelude.{none_or_any}
 
 -- ---- tests that agree on the items
 

@@ -4,22 +4,10 @@ use Rattle.std.specs.List.{AllByRecursion, enumerate_from, list_any}
 use Rattle.std.specs.Option.{option_map_or}
 use Rattle.std.proofs.lemmas.Bool.{or_parts}
 use Rattle.np_base.proofs.Each.{All-weaker, All-append, All-if}
-use Rattle.np_rules.specs.Types.{AdminPeer, AdminPolicy, AdminRule, BasePolicy, Direction, Egress, EstateLists, Family, Ingress}
+use Rattle.np_rules.specs.Prelude.{AdminPeer, AdminPolicy, AdminRule, BasePolicy, Contact, Direction, Egress, End, EstateLists, Family, Ingress, Packet, PodEnd, address, admin_decider, admin_entry_matches, admin_peer_matches, admin_places, admin_places_of, admin_precedes, admin_rule_matches, admin_rules_of, admin_says, allows, base_decider, base_places, base_rules_of, base_says, contact_of, end_allows, has_networks, is_isolated, least_by, none_or_any, permits, pod, rules_list_networks, side_allows, subject_selects}
 use Rattle.np_model.specs.declared.admin_policy.AdminPeer.TheVariants.{Pods, Networks}
-use Rattle.np_model.specs.Families.{is_networks}
+use Rattle.np_model.specs.Prelude.{is_networks}
 use Rattle.np_rules.proofs.EachItem.{filter-same, find-same}
-use Rattle.np_rules.specs.model.AdminTier.{admin_decider, admin_precedes, least_by}
-use Rattle.np_rules.specs.model.BaseTier.{base_decider}
-use Rattle.np_rules.specs.model.Ends.{Contact, End, Packet, PodEnd, pod, address, contact_of}
-use Rattle.np_rules.specs.Laws.{has_networks, rules_list_networks}
-use Rattle.np_rules.specs.model.NetTier.{is_isolated, permits}
-use Rattle.np_rules.specs.model.Peers.{admin_peer_matches}
-use Rattle.np_rules.specs.model.Places.{admin_places, admin_places_of, admin_rules_of, base_places, base_rules_of}
-use Rattle.np_rules.specs.model.PortEntries.{admin_entry_matches}
-use Rattle.np_rules.specs.model.Rules.{admin_rule_matches, none_or_any}
-use Rattle.np_rules.specs.model.Selection.{subject_selects}
-use Rattle.np_rules.specs.model.Sides.{admin_says, base_says, side_allows}
-use Rattle.np_rules.specs.model.Verdict.{allows, end_allows}
 
 -- ---- peers and rules
 

@@ -2,23 +2,13 @@
 use Rattle.std.proofs.Common.{◌≡◌, ℕ, List, [], ◌∷◌, Bool, true, false, filter, find, map, Option, refl, sym, ap, subst, ◌∙◌, if◌then◌else◌}
 use Rattle.std.specs.List.{list_any}
 use Rattle.std.proofs.lemmas.Bool.{and_left, false≢true, or_from, or_parts}
-use Rattle.np_rules.specs.Types.{Address, AdminPeer, AdminRule, Family, Layer, NetPeer, NetRule}
+use Rattle.np_rules.specs.Prelude.{Address, AdminPeer, AdminRule, Contact, End, Family, IsAdminPart, IsBasePart, IsSetOf, KeepsRules, Layer, NetPeer, NetRule, Pairwise, PlacedAdminRule, PlacedNetRule, PodSide, address, admin_entry_matches, admin_peer_matches, admin_places, admin_rule_matches, admin_rule_of_addresses, admin_says, base_places, base_says, is_block, is_networks, matches_of, near_pod, net_entry_matches, net_peer_matches, net_places, net_rule_matches, net_rule_of_addresses, none_or_any, placed_net_matches, side_allows}
 use Rattle.np_model.specs.declared.admin_policy.AdminPeer.TheVariants as admin
 use Rattle.np_model.specs.declared.network_policy.NetPeer.TheVariants as net
 use Rattle.np_rules.proofs.FilterLemmas.{any_kept, find_kept}
 use Rattle.np_rules.proofs.LayerLemmas.{admin_same, base_same, matches_in, matches_in_namespace, net_same, walk_by_tiers}
 use Rattle.np_rules.proofs.PairwiseLemmas.{Pairwise-map, map-map}
-use Rattle.np_rules.specs.AddressRules.{admin_rule_of_addresses, is_block, is_networks, net_rule_of_addresses}
-use Rattle.np_rules.specs.model.Ends.{Contact, End, address}
-use Rattle.np_rules.specs.Layers.{IsAdminPart, IsBasePart, IsSetOf, Pairwise, matches_of}
-use Rattle.np_rules.specs.model.NetTier.{placed_net_matches}
-use Rattle.np_rules.specs.model.Peers.{admin_peer_matches, net_peer_matches}
-use Rattle.np_rules.specs.model.Places.{PlacedAdminRule, PlacedNetRule, admin_places, base_places, net_places}
-use Rattle.np_rules.specs.PodSides.{KeepsRules, PodSide, near_pod}
-use Rattle.np_rules.specs.model.PortEntries.{admin_entry_matches, net_entry_matches}
-use Rattle.np_rules.specs.model.Rules.{admin_rule_matches, net_rule_matches, none_or_any}
-use Rattle.np_rules.specs.model.Sides.{admin_says, base_says, side_allows}
-use Rattle.np_tiers.specs.Walk.{admin_allows, base_allows, walk_allows}
+use Rattle.np_tiers.specs.Prelude.{admin_allows, base_allows, walk_allows}
 
 -- ---- rules without addresses
 

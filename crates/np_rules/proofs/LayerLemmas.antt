@@ -5,19 +5,12 @@ use Rattle.std.specs.Str.{bytes_eq}
 use Rattle.std.proofs.lemmas.Bool.{and_parts}
 use Rattle.std.proofs.lemmas.List.{map-append}
 use Rattle.std.proofs.lemmas.Slice.Eq.{bytes_eq-Decides}
-use Rattle.np_model.specs.Lawful.{HasAscendingPriorities}
-use Rattle.np_rules.specs.Types.{Action, AdminPart, BasePart, Direction, EstateLists, Layer, NetPolicy, NetRule}
-use Rattle.np_labels.specs.Selectors.{meets_selector}
+use Rattle.np_model.specs.Prelude.{HasAscendingPriorities}
+use Rattle.np_rules.specs.Prelude.{Action, AdminPart, BasePart, Contact, Direction, EstateLists, IsAdminPart, IsBasePart, IsLayer, IsSetOf, Layer, NetPolicy, NetRule, Pairwise, PlacedAdminRule, PlacedBaseRule, PlacedNetRule, PodEnd, action_says, admin_places, admin_rule_matches, admin_says, base_places, base_says, is_isolated, matches_of, net_places, net_places_of, net_rule_matches, net_rules_of, net_selects, placed_net_matches, side_allows, tier_action}
+use Rattle.np_labels.specs.Prelude.{meets_selector}
 use Rattle.np_model.specs.declared.admin_policy.Action.TheVariants as policy
-use Rattle.np_tiers.specs.Walk.{action_allows, admin_allows, base_allows, lower_allows, walk_allows}
-use Rattle.np_rules.specs.model.Ends.{Contact, PodEnd}
-use Rattle.np_rules.specs.Layers.{Pairwise, IsSetOf, IsAdminPart, IsBasePart, IsLayer, tier_action, matches_of}
-use Rattle.np_rules.specs.model.NetTier.{is_isolated, placed_net_matches}
-use Rattle.np_rules.specs.model.Places.{PlacedAdminRule, PlacedBaseRule, PlacedNetRule, admin_places, base_places, net_places, net_places_of, net_rules_of}
-use Rattle.np_rules.specs.model.Rules.{admin_rule_matches, net_rule_matches}
-use Rattle.np_rules.specs.model.Selection.{net_selects}
+use Rattle.np_tiers.specs.Prelude.{action_allows, admin_allows, base_allows, lower_allows, walk_allows}
 use Rattle.np_rules.specs.model.Sides as sides
-use Rattle.np_rules.specs.model.Sides.{action_says, admin_says, base_says, side_allows}
 use Rattle.np_rules.proofs.AdminTierLemmas.{decider_is_first}
 use Rattle.np_rules.proofs.NetTierLemmas as net
 

@@ -1,9 +1,7 @@
 -- Names of rules. For `push_ids`.
 use Rattle.std.proofs.Common.{◌≡◌, ℕ, zero, suc, ◌+◌, List, [], ◌∷◌, ◌++◌, length, map, add-one, ap, ◌∙◌, arith}
 use Rattle.std.specs.List.{enumerate_from}
-use Rattle.np_rules.specs.LayerRules.{ids_from}
-use Rattle.np_rules.specs.Layers.{Pairwise}
-use Rattle.np_rules.specs.Types.{RuleId}
+use Rattle.np_rules.specs.Prelude.{Pairwise, RuleId, ids_from}
 
 -- one name more at the end
 ids_after : (policy first count : ℕ) → ids_from policy first (suc count) ≡ ids_from policy first count ++ record { policy = policy; place = first + count } ∷ []

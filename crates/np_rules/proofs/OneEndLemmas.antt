@@ -1,9 +1,6 @@
 -- One far end and what its spots stand for. For `PodRules::pod_layer`, `PodRules::point_layer` and 2 more.
 use Rattle.std.proofs.Common.{◌≡◌, ap, ◌∙◌}
-use Rattle.np_rules.specs.Types.{Direction, Family, OneEnd, PortSpot}
-use Rattle.np_rules.specs.model.Ends.{Contact, End, contact, destination_of}
-use Rattle.np_rules.specs.OneEnd.{one_contact}
-use Rattle.np_rules.specs.Views.{end_view}
+use Rattle.np_rules.specs.Prelude.{Contact, Direction, End, Family, OneEnd, PortSpot, contact, destination_of, end_view, one_contact}
 
 abbrev contacts : End → End → Family → PortSpot → Contact
 contacts far destination family spot = record { far = far; destination = destination; family = family; spot = spot }

@@ -13,10 +13,8 @@ use Rattle.std.proofs.lemmas.List.{append-nil, get_or-drop, get_or-take, length-
 use Rattle.std.proofs.lemmas.List.Elements.{filter-append}
 use Rattle.std.proofs.lemmas.List.Sorted.{searchable_from_sorted}
 use Rattle.std.proofs.lemmas.Map.Text.{is_eq-slice_cmp}
-use Rattle.np_model.specs.Lawful.{StandsBefore, comes_before}
-use Rattle.np_rules.specs.Types.{Direction, NetPolicy}
-use Rattle.np_rules.specs.model.Ends.{PodEnd}
-use Rattle.np_rules.specs.model.NetTier.{is_isolated, isolates}
+use Rattle.np_model.specs.Prelude.{StandsBefore, comes_before}
+use Rattle.np_rules.specs.Prelude.{Direction, NetPolicy, PodEnd, is_isolated, isolates}
 use Rattle.np_rules.proofs.FilterLemmas.{any_kept, filter_kept}
 
 -- ---- what they say of the pods of the namespace

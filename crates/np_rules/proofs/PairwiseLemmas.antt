@@ -1,7 +1,7 @@
 -- Lists related place by place. For `admin_parts`, `base_parts` and 2 more.
 use Rattle.std.proofs.Common.{◌≡◌, ℕ, ◌+◌, ◌<◌, List, [], ◌∷◌, ◌++◌, length, take, get_or, map, refl, sym, ap, subst, ◌∙◌, append_assoc}
 use Rattle.std.proofs.lemmas.List.{take_more, map-append}
-use Rattle.np_rules.specs.Layers.{Pairwise}
+use Rattle.np_rules.specs.Prelude.{Pairwise}
 
 -- images of images
 pub map-map : {A B C : Type 0} (f : A → B) (g : B → C) (xs : List A) → map g (map f xs) ≡ map (λ x. g (f x)) xs

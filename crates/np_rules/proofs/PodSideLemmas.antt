@@ -1,11 +1,6 @@
 -- The layer of a side, made of the rules that are kept of it. For `PodRules::address_set` and `PodRules::layer`.
 use Rattle.std.proofs.Common.{◌≡◌, ℕ, ◌+◌, List, [], ◌∷◌, Bool, length, map, refl, sym, ap, ◌∙◌, subst, arith}
-use Rattle.np_rules.specs.Types.{AdminRule, Layer, NetRule}
-use Rattle.np_rules.specs.model.Ends.{Contact}
-use Rattle.np_rules.specs.Layers.{Pairwise, IsAdminPart, IsBasePart, IsLayer, IsSetOf, matches_of}
-use Rattle.np_rules.specs.model.Places.{admin_places, base_places, net_places}
-use Rattle.np_rules.specs.PodSides.{KeepsRules, PodSide, near_pod, side_rule_count}
-use Rattle.np_rules.specs.model.Rules.{net_rule_matches}
+use Rattle.np_rules.specs.Prelude.{AdminRule, Contact, IsAdminPart, IsBasePart, IsLayer, IsSetOf, KeepsRules, Layer, NetRule, Pairwise, PodSide, admin_places, base_places, matches_of, near_pod, net_places, net_rule_matches, side_rule_count}
 use Rattle.np_rules.proofs.LayerLemmas.{matches_in_namespace}
 use Rattle.np_rules.proofs.PairwiseLemmas.{Pairwise-map, map-map}
 

@@ -1,21 +1,12 @@
 -- The policies that speak of a pod, as they are kept. For `PodRules::names`, `PodRules::rules` and 3 more.
-use Rattle.std.proofs.Common.{◌≡◌, ℕ, suc, ◌+◌, ◌^◌, ◌<◌, ◌≤◌, List, [], ◌∷◌, ◌++◌, All, Bool, true, false, ◌&&◌, ◌||◌, ◌==◌, cond, length, take, get_or}
-use Rattle.std.proofs.Common.{map, filter, not, Option, Some, None, is_some, unwrap_or, refl, sym, ap, subst, ◌∙◌, arith, if◌then◌else◌}
+use Rattle.std.proofs.Common.{◌≡◌, ℕ, suc, ◌+◌, ◌^◌, ◌<◌, ◌≤◌, List, [], ◌∷◌, ◌++◌, All, Bool, true, false, ◌&&◌, ◌||◌, ◌==◌, cond, length, take, get_or, map, filter, not, Option, Some, None, is_some, unwrap_or, refl, sym, ap, subst, ◌∙◌, arith, if◌then◌else◌}
 use Rattle.std.specs.List.{enumerate_from, flat_map, list_any, slice_get}
 use Rattle.std.proofs.lemmas.Bool.Decides.{nat_tests}
 use Rattle.std.proofs.lemmas.List.{append-nil, map-append}
 use Rattle.std.proofs.lemmas.List.Elements.{All-cons, All-nil}
 use Rattle.std.proofs.lemmas.Option.{slice_get_within}
-use Rattle.np_model.specs.Lawful.{IsFew}
-use Rattle.np_rules.specs.Types.{AdminPolicy, AdminRule, BasePolicy, Direction, NetPolicy, NetRule, PolicyRules, RuleId}
-use Rattle.np_rules.specs.model.Ends.{PodEnd}
-use Rattle.np_rules.specs.Layers.{Pairwise}
-use Rattle.np_rules.specs.LayerRules.{NamesAdmin, NamesBase, NamesNet, ids_from}
-use Rattle.np_rules.specs.model.NetTier.{isolates}
-use Rattle.np_rules.specs.model.Places.{PlacedAdminRule, PlacedBaseRule, PlacedNetRule, admin_places, admin_places_of, admin_rules_of, base_places, base_rules_of, net_places, net_places_of, net_rules_of}
-use Rattle.np_rules.specs.model.Selection.{net_selects, subject_selects}
-use Rattle.np_rules.specs.PodSides.{KeepsPolicies, KeepsRules, PodSide, near_pod}
-use Rattle.np_rules.specs.PolicyRules.{IsPolicyAt, ids_of, net_rules_in}
+use Rattle.np_model.specs.Prelude.{IsFew}
+use Rattle.np_rules.specs.Prelude.{AdminPolicy, AdminRule, BasePolicy, Direction, IsPolicyAt, KeepsPolicies, KeepsRules, NamesAdmin, NamesBase, NamesNet, NetPolicy, NetRule, Pairwise, PlacedAdminRule, PlacedBaseRule, PlacedNetRule, PodEnd, PodSide, PolicyRules, RuleId, admin_places, admin_places_of, admin_rules_of, base_places, base_rules_of, ids_from, ids_of, isolates, near_pod, net_places, net_places_of, net_rules_in, net_rules_of, net_selects, subject_selects}
 use Rattle.np_rules.proofs.AdminTierLemmas as admin
 use Rattle.np_rules.proofs.FilterLemmas.{filter_next, flat_map_filter}
 use Rattle.np_rules.proofs.LayerLemmas.{placed_in}

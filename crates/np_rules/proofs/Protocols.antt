@@ -1,7 +1,7 @@
 -- Protocols. For `named_at`.
 use Rattle.std.proofs.Common.{◌≡◌, ◌&&◌, ◌||◌, Bool, true, false, refl}
-use Rattle.np_conns.specs.Conns.{same_proto}
-use Rattle.np_rules.specs.Types.{Proto}
+use Rattle.np_conns.specs.Prelude.{same_proto}
+use Rattle.np_rules.specs.Prelude.{Proto}
 use Rattle.np_conns.specs.declared.proto.Proto.TheVariants.{Sctp, Tcp, Udp}
 
 -- each protocol is one of the three

@@ -3,23 +3,13 @@ use Rattle.std.proofs.Common.{◌≡◌, ℕ, ◌+◌, ◌<◌, List, [], ◌∷
 use Rattle.std.specs.List.{AllByRecursion, list_any}
 use Rattle.std.proofs.lemmas.List.{map-append, take_more}
 use Rattle.std.proofs.Math.Bool.{or-false}
-use Rattle.np_rules.specs.Types.{Address, AdminRule, Direction, Egress, Ingress, Layer, NetPort, NetRule, PortSpot, RuleConns, Six, Stranger}
-use Rattle.np_conns.specs.Conns.{Conns, has_spot, is_spot}
+use Rattle.np_rules.specs.Prelude.{Address, AdminRule, ArePermitted, Contact, Direction, Egress, End, HasPorts, HavePorts, Ingress, IsAdminPart, IsBasePart, IsNetOf, KeepsRules, Layer, NetPort, NetRule, Pairwise, PlacedNetRule, PodSide, PortSpot, RuleConns, SaysVerdicts, Six, Stranger, address, admin_places, admin_rule_matches, admin_says, base_places, base_says, destination_of, kept_matches, matches_of, near_pod, net_entry_matches, net_peer_matches, net_places, net_rule_matches, none_or_any, placed_net_matches, pod, rule_of, stranger_end, with_stranger}
+use Rattle.np_conns.specs.Prelude.{Conns, has_spot, is_spot}
 use Rattle.np_model.specs.declared.network_policy.NetPort.TheVariants as net
 use Rattle.np_rules.proofs.LayerLemmas.{admin_same, base_same, matches_in, matches_in_namespace, walk_by_tiers}
 use Rattle.np_rules.proofs.PairwiseLemmas.{Pairwise-map}
-use Rattle.np_rules.specs.model.Ends.{Contact, End, address, destination_of, pod, stranger_end}
-use Rattle.np_rules.specs.Layers.{IsAdminPart, IsBasePart, Pairwise, matches_of}
-use Rattle.np_rules.specs.model.NetTier.{placed_net_matches}
-use Rattle.np_rules.specs.model.Peers.{net_peer_matches}
-use Rattle.np_rules.specs.model.Places.{PlacedNetRule, admin_places, base_places, net_places}
-use Rattle.np_rules.specs.PodSides.{KeepsRules, PodSide, SaysVerdicts, near_pod, with_stranger}
-use Rattle.np_rules.specs.model.PortEntries.{net_entry_matches}
-use Rattle.np_rules.specs.model.Rules.{admin_rule_matches, net_rule_matches, none_or_any}
-use Rattle.np_rules.specs.StrangerRules.{ArePermitted, HasPorts, HavePorts, IsNetOf, kept_matches, rule_of}
-use Rattle.np_rules.specs.model.Sides.{admin_says, base_says}
 use Rattle.np_rules.proofs.AddressLemmas.{none_or_any-same}
-use Rattle.np_tiers.specs.Walk.{admin_allows, base_allows}
+use Rattle.np_tiers.specs.Prelude.{admin_allows, base_allows}
 
 -- ---- the sets of the rules
 

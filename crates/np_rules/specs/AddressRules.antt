@@ -3,7 +3,7 @@ use Rattle.std.specs.Prelude.{◌≡◌, Bool, true, false}
 use Rattle.std.proofs.Common.{refl, sym}
 use Rattle.std.proofs.lemmas.Bool.{false≢true}
 use Rattle.std.specs.List.{list_any}
-use Rattle.np_addr.specs.Addresses.{cidr_has}
+use Rattle.np_addr.specs.Prelude.{cidr_has}
 use Rattle.np_rules.specs.Types.{Address, AdminPeer, AdminRule, Cidr, NetPeer, NetRule}
 use Rattle.np_model.specs.declared.admin_policy.AdminPeer.TheVariants as admin
 use Rattle.np_model.specs.declared.network_policy.NetPeer.TheVariants as net

@@ -1,11 +1,11 @@
 -- Blocks by the family of their addresses.
 use Rattle.std.specs.Prelude.{List, Bool, ◌&&◌}
 use Rattle.std.specs.List.{list_any}
-use Rattle.np_addr.specs.Addresses.{cidr_has}
+use Rattle.np_addr.specs.Prelude.{cidr_has}
 use Rattle.np_rules.specs.Types.{Address, Cidr, Family, Four}
 use Rattle.np_addr.specs.declared.address.Family.TheVariants.{Six}
 use Rattle.np_addr.specs.declared.cidr.Cidr.TheVariants as block
-use Rattle.np_model.specs.Families.{same_family}
+use Rattle.np_model.specs.Prelude.{same_family}
 
 -- whether the addresses of a block are of the family
 abbrev pub is_block_of : Family → Cidr → Bool

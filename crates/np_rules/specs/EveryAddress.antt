@@ -2,9 +2,9 @@
 use Rattle.std.specs.Prelude.{ℕ, ◌-◌, ◌^◌, List, [], Bool, ◌&&◌}
 use Rattle.np_rules.specs.Types.{Address, AdminPeer, At, Beside, Direction, First, NetPeer, Piece, PortSpot, Second, Six, Which}
 use Rattle.np_addr.specs.declared.address.Address.TheVariants.{Four}
-use Rattle.np_addr.specs.Addresses.{family_of}
+use Rattle.np_addr.specs.Prelude.{family_of}
 use Rattle.np_base.specs.Beside.{by_side}
-use Rattle.np_conns.specs.Conns.{Conns, has_spot, is_spot}
+use Rattle.np_conns.specs.Prelude.{Conns, has_spot, is_spot}
 use Rattle.np_pieces.specs.Pieces as pieces
 use Rattle.np_rules.specs.model.Ends.{Contact, End, address, contact}
 use Rattle.np_rules.specs.model.Peers.{admin_peer_matches, net_peer_matches}

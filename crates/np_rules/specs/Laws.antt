@@ -3,7 +3,7 @@ use Rattle.std.specs.Prelude.{◌≡◌, ◌⊎◌, List, [], ◌∷◌, ◌++�
 use Rattle.std.specs.List.{list_any}
 use Rattle.std.specs.Option.{option_map, option_map_or}
 use Rattle.np_rules.specs.Types.{AdminRule, Direction, Egress, EstateLists, Ingress, NetPolicy, NetRule}
-use Rattle.np_model.specs.Families.{is_networks}
+use Rattle.np_model.specs.Prelude.{is_networks}
 
 -- the item is one of the list
 abbrev pub IsAmong : {X : Type 0} → X → List X → Type 0

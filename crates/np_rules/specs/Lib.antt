@@ -9,6 +9,7 @@ pub mod model
 pub mod OneEnd
 pub mod PodSides
 pub mod PolicyRules
+pub mod Prelude
 pub mod StrangerRules
 pub mod Texts
 pub mod Types

@@ -1,8 +1,8 @@
 -- The side of a pod in a direction, by the pod's place in an estate: what it looks at, and what a layer of it is.
 use Rattle.std.specs.Prelude.{◌≡◌, ℕ, ◌<◌, List, length, Bool, true, map}
-use Rattle.np_addr.specs.Addresses.{family_of}
+use Rattle.np_addr.specs.Prelude.{family_of}
 use Rattle.np_rules.specs.Types.{Address, AdminRule, Direction, EstateLists, Family, Four, Layer, NetRule, PolicyRules, PortSpot, Stranger}
-use Rattle.np_model.specs.Lawful.{HasAscendingPriorities}
+use Rattle.np_model.specs.Prelude.{HasAscendingPriorities}
 use Rattle.np_rules.specs.model.Ends.{Contact, PodEnd, pod, address, contact, stranger_end}
 use Rattle.np_rules.specs.EveryAddress.{AddressSpot, address_contact}
 use Rattle.np_rules.specs.Layers.{IsLayer}
@@ -11,7 +11,7 @@ use Rattle.np_rules.specs.model.Places.{admin_places, base_places, net_places, r
 use Rattle.np_rules.specs.model.Sides.{side_allows}
 use Rattle.np_rules.specs.model.Verdict.{pod_at}
 use Rattle.np_rules.specs.PolicyRules.{AreIsolating, AreSelecting}
-use Rattle.np_tiers.specs.Walk.{walk_allows}
+use Rattle.np_tiers.specs.Prelude.{walk_allows}
 
 -- a pod of an estate, by its place, and a direction
 pub record PodSide : Type 0 where

@@ -2,7 +2,7 @@
 -- match.
 use Rattle.std.specs.Prelude.{◌≡◌, ℕ, List, Bool, true, ◌&&◌}
 use Rattle.std.specs.List.{AllByRecursion, list_any}
-use Rattle.np_conns.specs.Conns.{Conns, has_spot, is_spot}
+use Rattle.np_conns.specs.Prelude.{Conns, has_spot, is_spot}
 use Rattle.np_rules.specs.Types.{Direction, NetRule, PortSpot, RuleConns, Stranger}
 use Rattle.np_rules.specs.model.Ends.{End, destination_of, pod, stranger_end}
 use Rattle.np_rules.specs.model.NetTier.{permits}

@@ -1,6 +1,6 @@
 -- What directions and verdicts are called in reports.
 use Rattle.std.specs.Prelude.{ℕ, List, ◌++◌, Bool, true, false, codes, decimal}
-use Rattle.np_conns.specs.ConnsText.{proto_name}
+use Rattle.np_conns.specs.Prelude.{proto_name}
 use Rattle.np_rules.specs.Types.{PortSpot}
 
 abbrev pub verdict_text : Bool → List ℕ

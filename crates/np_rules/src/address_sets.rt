@@ -1,8 +1,7 @@
 //! The addresses that peers stand for, as sets.
 ghost use Rattle.std.specs.Prelude.{◌≡◌, Bool, true, false, not, ◌&&◌, ◌||◌, IfOk};
 ghost use Rattle.std.specs.List.{list_any};
-ghost use Rattle.np_addr.specs.Addresses.{IsAddress};
-ghost use Rattle.np_addr.specs.Blocks.{set_has, block_has};
+ghost use Rattle.np_addr.specs.Prelude.{IsAddress, block_has, set_has};
 ghost use Rattle.np_addr.specs.declared.address.Address.{Address};
 ghost use Rattle.np_rules.specs.EveryAddress.{net_peer_has, admin_peer_has};
 ghost use Rattle.np_rules.specs.model.Rules.{none_or_any};

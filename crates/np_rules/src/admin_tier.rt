@@ -1,13 +1,9 @@
 //! What the AdminNetworkPolicies say of one packet.
 ghost use Rattle.std.specs.Prelude.{◌≡◌, ◌+◌, [], find, length, if◌then◌else◌};
 ghost use Rattle.std.specs.Option.{option_map};
-ghost use Rattle.np_model.specs.Lawful.{HasAscendingPriorities};
-ghost use Rattle.np_rules.specs.model.AdminTier.{admin_decider};
+ghost use Rattle.np_model.specs.Prelude.{HasAscendingPriorities};
+ghost use Rattle.np_rules.specs.Prelude.{admin_decider, admin_places, admin_places_of, admin_rule_matches, contact_view, pod_view, subject_selects};
 ghost use Rattle.np_rules.specs.model.Places as spec;
-ghost use Rattle.np_rules.specs.model.Places.{admin_places, admin_places_of};
-ghost use Rattle.np_rules.specs.model.Rules.{admin_rule_matches};
-ghost use Rattle.np_rules.specs.model.Selection.{subject_selects};
-ghost use Rattle.np_rules.specs.Views.{pod_view, contact_view};
 
 use crate::rules::admin_rule_matches;
 use crate::selection::subject_selects;

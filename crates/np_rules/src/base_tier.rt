@@ -1,10 +1,8 @@
 //! What the baseline says of one packet.
 ghost use Rattle.std.specs.Prelude.{◌≡◌, ◌+◌, length, map, Some};
 ghost use Rattle.std.specs.Option.{option_map, option_copied};
-ghost use Rattle.np_rules.specs.model.BaseTier.{base_decider};
-ghost use Rattle.np_rules.specs.model.Places.{base_places};
+ghost use Rattle.np_rules.specs.Prelude.{base_decider, base_places, contact_view, pod_view};
 ghost use Rattle.np_rules.specs.model.Places as spec;
-ghost use Rattle.np_rules.specs.Views.{pod_view, contact_view};
 
 use crate::admin_tier::first_action;
 use crate::selection::subject_selects;

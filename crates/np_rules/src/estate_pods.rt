@@ -1,11 +1,8 @@
 //! Which pods of an estate a policy selects, and which ones a rule of it speaks of as far ends.
 ghost use Rattle.std.specs.Prelude.{◌≡◌, AllPairs};
 ghost use Rattle.std.specs.List.{list_any};
-ghost use Rattle.np_model.specs.Lawful.{StandsBefore};
-ghost use Rattle.np_rules.specs.model.Ends.{pod, pod_end};
-ghost use Rattle.np_rules.specs.model.NetTier.{is_isolated};
-ghost use Rattle.np_rules.specs.model.Peers.{admin_peer_matches, net_peer_matches};
-ghost use Rattle.np_rules.specs.model.Rules.{none_or_any};
+ghost use Rattle.np_model.specs.Prelude.{StandsBefore};
+ghost use Rattle.np_rules.specs.Prelude.{admin_peer_matches, is_isolated, net_peer_matches, none_or_any, pod, pod_end};
 ghost use Rattle.np_rules.specs.model.Selection as spec;
 
 use crate::net_tier::is_isolated;

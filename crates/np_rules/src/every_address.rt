@@ -1,8 +1,8 @@
 //! All addresses of both families as far ends.
 ghost use Rattle.std.specs.Prelude.{◌≡◌, true, ◌&&◌, IfOk};
-ghost use Rattle.np_addr.specs.Blocks.{set_has};
+ghost use Rattle.np_addr.specs.Prelude.{set_has};
 ghost use Rattle.np_base.specs.Ranges.{holds};
-ghost use Rattle.np_conns.specs.Conns.{has_spot};
+ghost use Rattle.np_conns.specs.Prelude.{has_spot};
 ghost use Rattle.np_addr.specs.declared.address.Address.{Address};
 ghost use Rattle.np_conns.specs.declared.port_spot.PortSpot.{PortSpot};
 ghost use Rattle.np_pieces.specs.Pieces as pieces;

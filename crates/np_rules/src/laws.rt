@@ -8,15 +8,7 @@ ghost use Rattle.np_model.specs.declared.admin_policy.AdminPolicy.{AdminPolicy};
 ghost use Rattle.np_model.specs.declared.direction.Direction.{Direction};
 ghost use Rattle.np_model.specs.declared.network_policy.NetPolicy.{NetPolicy};
 ghost use Rattle.np_model.specs.declared.network_policy.NetRule.{NetRule};
-ghost use Rattle.np_rules.specs.model.AdminTier.{admin_candidates, admin_decider, admin_precedes};
-ghost use Rattle.np_rules.specs.Deciders.{decider, decider_allows};
-ghost use Rattle.np_rules.specs.model.Ends.{Contact, End, Packet, PodEnd};
-ghost use Rattle.np_rules.specs.Laws.{IsAmong, has_networks, with_net_policies, with_rule};
-ghost use Rattle.np_rules.specs.model.NetTier.{is_isolated, permits};
-ghost use Rattle.np_rules.specs.model.Places.{PlacedAdminRule};
-ghost use Rattle.np_rules.specs.model.Selection.{net_selects, subject_selects};
-ghost use Rattle.np_rules.specs.model.Sides.{side_allows};
-ghost use Rattle.np_rules.specs.model.Verdict.{allows, end_allows};
+ghost use Rattle.np_rules.specs.Prelude.{Contact, End, IsAmong, Packet, PlacedAdminRule, PodEnd, admin_candidates, admin_decider, admin_precedes, allows, decider, decider_allows, end_allows, has_networks, is_isolated, net_selects, permits, side_allows, subject_selects, with_net_policies, with_rule};
 
 /// What decides a packet at an end says what that end's side says.
 pub fn decider_gives_the_verdict()

@@ -1,9 +1,7 @@
 //! The tiers of a layer, for any kind of far ends.
 ghost use Rattle.std.specs.Prelude.{◌≡◌, map, IfOk};
 ghost use Rattle.np_rules.specs.Layers as spec;
-ghost use Rattle.np_rules.specs.Layers.{Pairwise, IsAdminPart, IsBasePart, IsSetOf};
-ghost use Rattle.np_rules.specs.model.Rules.{net_rule_matches};
-ghost use Rattle.np_rules.specs.model.Sides.{is_allow};
+ghost use Rattle.np_rules.specs.Prelude.{IsAdminPart, IsBasePart, IsSetOf, Pairwise, is_allow, net_rule_matches};
 
 use crate::far_ends::FarEnds;
 use np_base::{Cells, NoMemory, Seq};

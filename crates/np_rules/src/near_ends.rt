@@ -1,11 +1,9 @@
 //! What the side of a pod of an estate looks at, by the far end.
 ghost use Rattle.std.specs.Prelude.{◌≡◌, ◌<◌, length};
-ghost use Rattle.np_addr.specs.Addresses.{family_of};
+ghost use Rattle.np_addr.specs.Prelude.{family_of};
 ghost use Rattle.np_addr.specs.declared.address.Family.TheVariants.{Four};
 ghost use Rattle.np_rules.specs.model.Ends as ends;
-ghost use Rattle.np_rules.specs.model.Ends.{destination_of, stranger_end};
-ghost use Rattle.np_rules.specs.model.Verdict.{pod_at};
-ghost use Rattle.np_rules.specs.Views.{end_view, pod_view};
+ghost use Rattle.np_rules.specs.Prelude.{destination_of, end_view, pod_at, pod_view, stranger_end};
 
 use crate::one_end::OneEnd;
 use crate::stranger::Stranger;

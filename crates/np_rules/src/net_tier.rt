@@ -3,10 +3,7 @@ ghost use Rattle.std.specs.Prelude.{◌≡◌, ◌+◌, [], None, length, if◌t
 ghost use Rattle.std.specs.List.{list_any};
 ghost use Rattle.std.specs.Option.{option_map};
 ghost use Rattle.np_rules.specs.model.NetTier as spec;
-ghost use Rattle.np_rules.specs.model.Places.{net_places, net_rules_of};
-ghost use Rattle.np_rules.specs.model.Rules.{net_rule_matches};
-ghost use Rattle.np_rules.specs.model.Selection.{net_selects};
-ghost use Rattle.np_rules.specs.Views.{pod_view, contact_view};
+ghost use Rattle.np_rules.specs.Prelude.{contact_view, net_places, net_rule_matches, net_rules_of, net_selects, pod_view};
 
 use crate::rules::net_rule_matches;
 use crate::selection::net_selects;

@@ -2,7 +2,7 @@
 ghost use Rattle.std.specs.Prelude.{◌≡◌, ◌+◌, ◌<◌, ℕ, filter, length, AllPairs};
 ghost use Rattle.std.specs.List.{slice_get};
 ghost use Rattle.std.specs.Str.{bytes_eq};
-ghost use Rattle.np_model.specs.Lawful.{StandsBefore};
+ghost use Rattle.np_model.specs.Prelude.{StandsBefore};
 
 use np_model::NetPolicy;
 

@@ -2,14 +2,10 @@
 ghost use Rattle.std.specs.Prelude.{◌≡◌, ◌&&◌, [], not, unwrap_or};
 ghost use Rattle.std.specs.Option.{option_copied};
 ghost use Rattle.std.specs.List.{list_any};
-ghost use Rattle.np_addr.specs.Addresses.{cidr_has};
-ghost use Rattle.np_addr.specs.Blocks.{block_has};
-ghost use Rattle.np_model.specs.Families.{is_of};
-ghost use Rattle.np_rules.specs.BlockFamilies.{is_block_of, some_inside};
+ghost use Rattle.np_addr.specs.Prelude.{block_has, cidr_has, some_has};
+ghost use Rattle.np_model.specs.Prelude.{is_of};
+ghost use Rattle.np_rules.specs.Prelude.{end_view, is_block_of, none_or_any, pod_view, some_inside};
 ghost use Rattle.np_rules.specs.model.Peers as spec;
-ghost use Rattle.np_rules.specs.model.Rules.{none_or_any};
-ghost use Rattle.np_rules.specs.Views.{pod_view, end_view};
-ghost use Rattle.np_addr.specs.Prefixes.{some_has};
 
 use crate::views::{EndView, PodView};
 use np_addr::{Address, Addresses, Cidr, Family, cidr_has};

@@ -1,16 +1,15 @@
 //! The rules that speak of a pod.
 ghost use Rattle.std.specs.Prelude.{◌≡◌, ◌+◌, ◌-◌, ◌^◌, ◌≤◌, ◌<◌, filter, length, map, true, Some, IfOk, OnOk};
 ghost use Rattle.std.specs.List.{slice_get};
-ghost use Rattle.np_conns.specs.Conns.{IsConns, is_spot, has_spot};
-ghost use Rattle.np_model.specs.Lawful.{IsFew};
-ghost use Rattle.np_pieces.specs.Pieces.{Covers};
+ghost use Rattle.np_conns.specs.Prelude.{IsConns, has_spot, is_spot};
+ghost use Rattle.np_model.specs.Prelude.{IsFew};
+ghost use Rattle.np_pieces.specs.Prelude.{Covers};
 ghost use Rattle.np_rules.specs.EveryAddress.{AddressSpot, has_address_spot, is_address_spot};
 ghost use Rattle.np_rules.specs.LayerRules as spec;
 ghost use Rattle.np_rules.specs.Layers.{Pairwise};
 ghost use Rattle.np_rules.specs.model.NetTier.{isolates};
 ghost use Rattle.np_rules.specs.model.Places.{admin_places, base_places, net_places};
-ghost use Rattle.np_rules.specs.PodSides.{IsSideLayer, KeepsRules, SaysVerdicts, near_pod, side_of, side_rule_count};
-ghost use Rattle.np_rules.specs.PodSides.{with_addresses, with_pod, with_point, with_stranger};
+ghost use Rattle.np_rules.specs.PodSides.{IsSideLayer, KeepsRules, SaysVerdicts, near_pod, side_of, side_rule_count, with_addresses, with_pod, with_point, with_stranger};
 ghost use Rattle.np_rules.specs.model.Sides.{side_allows};
 
 use crate::address_rules::rules_of_addresses;

@@ -1,6 +1,6 @@
 //! The policies that speak of a pod.
 ghost use Rattle.std.specs.Prelude.{◌≡◌, ◌++◌, map, flat_map, AllPairs, IfOk, OnOk};
-ghost use Rattle.np_model.specs.Lawful.{StandsBefore};
+ghost use Rattle.np_model.specs.Prelude.{StandsBefore};
 ghost use Rattle.np_rules.specs.PolicyRules.{AreIsolating, AreSelecting};
 ghost use Rattle.np_rules.specs.Views.{pod_view};
 

@@ -2,8 +2,7 @@
 ghost use Rattle.std.specs.Prelude.{◌≡◌};
 ghost use Rattle.std.specs.List.{list_any};
 ghost use Rattle.np_rules.specs.model.PortEntries as spec;
-ghost use Rattle.np_rules.specs.model.Rules.{none_or_any};
-ghost use Rattle.np_rules.specs.Views.{end_view};
+ghost use Rattle.np_rules.specs.Prelude.{end_view, none_or_any};
 
 use crate::views::EndView;
 use np_base::PortNum;

@@ -1,7 +1,7 @@
 //! The protocols and ports of port entries, as sets.
 ghost use Rattle.std.specs.Prelude.{◌≡◌, Bool, true, ◌&&◌, ◌||◌, ◌==◌, IfOk};
 ghost use Rattle.std.specs.List.{list_any};
-ghost use Rattle.np_conns.specs.Conns.{is_spot, has_spot, same_proto};
+ghost use Rattle.np_conns.specs.Prelude.{has_spot, is_spot, same_proto};
 ghost use Rattle.np_conns.specs.declared.port_spot.PortSpot.{PortSpot};
 ghost use Rattle.np_addr.specs.declared.address.Address.{Address};
 ghost use Rattle.np_rules.specs.model.Ends.{End, address};

@@ -1,7 +1,7 @@
 //! Whether a rule matches.
 ghost use Rattle.std.specs.Prelude.{◌≡◌};
 ghost use Rattle.np_rules.specs.model.Rules as spec;
-ghost use Rattle.np_rules.specs.Views.{contact_view};
+ghost use Rattle.np_rules.specs.Prelude.{contact_view};
 
 use crate::peers::{admin_peers_match, net_peers_match};
 use crate::port_entries::{admin_entries_match, net_entries_match};

@@ -1,7 +1,7 @@
 //! Which pods a policy is about.
 ghost use Rattle.std.specs.Prelude.{◌≡◌};
 ghost use Rattle.np_rules.specs.model.Selection as spec;
-ghost use Rattle.np_rules.specs.Views.{pod_view};
+ghost use Rattle.np_rules.specs.Prelude.{pod_view};
 
 use crate::views::PodView;
 use np_model::{NetPolicy, Subject};

@@ -1,7 +1,7 @@
 //! The rules that speak of a pod, for many pods that nobody has written yet.
 ghost use Rattle.std.specs.Prelude.{◌≡◌, ◌+◌, ◌≤◌, ◌<◌, length, map, IfOk, OnOk};
 ghost use Rattle.std.specs.List.{AllByRecursion, list_any};
-ghost use Rattle.np_conns.specs.Conns.{has_spot, is_spot};
+ghost use Rattle.np_conns.specs.Prelude.{has_spot, is_spot};
 ghost use Rattle.np_conns.specs.declared.port_spot.PortSpot.{PortSpot};
 ghost use Rattle.np_rules.specs.model.Ends.{pod, stranger_end};
 ghost use Rattle.np_rules.specs.PodSides.{SaysVerdicts, near_pod, side_of, side_rule_count, with_stranger};

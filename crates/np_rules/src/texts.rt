@@ -1,7 +1,7 @@
 //! What directions and verdicts are called in reports.
 ghost use Rattle.std.specs.Prelude.{◌≡◌, IfOk, string_bytes};
 ghost use Rattle.np_rules.specs.Texts as spec;
-ghost use Rattle.np_model.specs.Words.{direction_text};
+ghost use Rattle.np_model.specs.Prelude.{direction_text};
 
 use np_base::NoMemory;
 use np_conns::PortSpot;

@@ -1,11 +1,8 @@
 //! Whether one packet is allowed.
 ghost use Rattle.std.specs.Prelude.{◌≡◌, ◌+◌, Option};
 ghost use Rattle.std.specs.Option.{option_map};
-ghost use Rattle.np_rules.specs.model.Ends.{pod_end};
-ghost use Rattle.np_rules.specs.model.Places.{rule_count, end_rule_count, PlacedAdminRule, PlacedBaseRule};
+ghost use Rattle.np_rules.specs.Prelude.{IsEndOf, PlacedAdminRule, PlacedBaseRule, allows, contact_view, end_allows, end_of, end_rule_count, end_view, packet_of, packet_rule_count, pod_end, pod_view, rule_count};
 ghost use Rattle.np_rules.specs.model.Sides as spec;
-ghost use Rattle.np_rules.specs.model.Verdict.{allows, end_allows, end_of, packet_of, packet_rule_count, IsEndOf};
-ghost use Rattle.np_rules.specs.Views.{pod_view, end_view, contact_view};
 
 use crate::admin_tier::admin_action;
 use crate::base_tier::base_action;

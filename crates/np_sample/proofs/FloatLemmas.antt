@@ -4,7 +4,7 @@ use Rattle.std.specs.List.{AllByRecursion}
 use Rattle.serde_json.specs.Data.{Data}
 use Rattle.serde_json.specs.View.{items_of}
 use Rattle.serde_json.specs.Written.{has_float, items_have_float}
-use Rattle.np_sample.specs.Sample.{sample_objects, sample_value}
+use Rattle.np_sample.specs.Prelude.{sample_objects, sample_value}
 use Rattle.np_sample.proofs.ObjectLemmas.{all-objects}
 
 no_items_float : (values : List Data) → AllByRecursion (λ (value : Data). has_float value ≡ false) values → items_have_float (items_of values) ≡ false

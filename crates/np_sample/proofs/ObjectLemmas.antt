@@ -2,8 +2,7 @@
 use Rattle.std.proofs.Common.{ℕ, ◌<◌}
 use Rattle.std.specs.List.{AllByRecursion}
 use Rattle.serde_json.specs.Data.{Data}
-use Rattle.np_sample.specs.Objects.{admin_policy, namespace, namespace_count, net_policy, pod}
-use Rattle.np_sample.specs.Sample.{sample_objects}
+use Rattle.np_sample.specs.Prelude.{admin_policy, namespace, namespace_count, net_policy, pod, sample_objects}
 use Rattle.np_sample.proofs.ListLemmas.{all-four}
 
 pub all-objects : (P : Data → Type 0) (n : ℕ) → ((j : ℕ) → j < namespace_count → P (namespace j)) → ((i : ℕ) → i < n → P (pod i)) → ((j : ℕ) → j < namespace_count → P (net_policy j)) →

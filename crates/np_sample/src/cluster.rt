@@ -3,7 +3,7 @@ ghost use Rattle.std.specs.Prelude.{◌≡◌, ◌≤◌, ◌++◌, IfOk, OnOk, 
 ghost use Rattle.std.specs.List.{range_with_len};
 ghost use Rattle.serde_json.specs.View.{view};
 ghost use Rattle.np_sample.specs.Objects as spec;
-ghost use Rattle.np_sample.specs.Sample.{sample_objects, sample_text, sample_value};
+ghost use Rattle.np_sample.specs.Prelude.{sample_objects, sample_text, sample_value};
 
 use crate::admin_policy::admin_policy;
 use crate::names::NAMESPACES;

@@ -3,15 +3,13 @@ use Rattle.std.proofs.Common.{◌≡◌, ℕ, ◌+◌, ◌-◌, ◌^◌, ◌<◌
 use Rattle.std.proofs.lemmas.Bool.{and_from, le-leb, lt-ltb, or_left}
 use Rattle.std.proofs.lemmas.Bool.Decides.{nat_tests}
 use Rattle.std.proofs.lemmas.Nat.{pow_pos}
-use Rattle.np_addr.specs.Addresses.{IsAddress, cidr_has}
-use Rattle.np_addr.specs.Blocks.{AddressRanges, IsAddressSet, set_has}
-use Rattle.np_statements.specs.Types.{Address, Cidr}
+use Rattle.np_addr.specs.Prelude.{AddressRanges, IsAddress, IsAddressSet, cidr_has, set_has}
+use Rattle.np_statements.specs.Prelude.{Address, Cidr, addresses_in, every_address, no_address}
 use Rattle.np_addr.specs.declared.address.Address.TheVariants as address
 use Rattle.np_addr.specs.declared.cidr.Cidr.TheVariants as cidr
 use Rattle.np_base.proofs.Ranges.{same_members_same_ranges}
 use Rattle.np_base.specs.Beside.{equal_by_parts}
 use Rattle.np_sets.specs.Laws.{holds-last}
-use Rattle.np_statements.specs.Ends.{addresses_in, every_address, no_address}
 
 -- sets with the same addresses are equal
 same_set : (made set : AddressRanges) → IsAddressSet made → IsAddressSet set → ((address : Address) → IsAddress address → set_has made address ≡ set_has set address) → made ≡ set

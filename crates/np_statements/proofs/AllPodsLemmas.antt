@@ -4,18 +4,12 @@ use Rattle.std.specs.List.{list_any}
 use Rattle.std.proofs.lemmas.Bool.{and_from, and_parts, cases_Bool, or_left, or_right}
 use Rattle.std.proofs.lemmas.List.Elements.{All-cons, All-nil}
 use Rattle.np_check.proofs.LeastLemmas.{first_broken, nothing_broken}
-use Rattle.np_check.specs.Counterexamples.{allows_between, complies, counterexample_of}
-use Rattle.np_check.specs.FirstPacket.{IsBroken}
-use Rattle.np_statements.specs.Types.{Addresses, Allow, AskedLine, Block, CheckedKinds, Counterexample, Deny, EndForm, EstateLists, Namespace, Pods, PortSpot, Question, StatementLine, Wanted, Work}
-use Rattle.np_conns.specs.Conns.{Conns, has_spot}
+use Rattle.np_check.specs.Prelude.{IsBroken, allows_between, complies, counterexample_of}
+use Rattle.np_statements.specs.Prelude.{Addresses, Allow, AreSettled, AskedLine, Block, CheckedKinds, Counterexample, Deny, EndForm, EstateLists, HoldsOfPods, IsQuestion, Namespace, Pods, PortSpot, Question, StatementLine, Wanted, Work, all_works, asked_of, asks_at, asks_pods, broken_by, broken_of, ends_of, is_any_pod, is_same, is_settled, question_of_pods, works_alone}
+use Rattle.np_conns.specs.Prelude.{Conns, has_spot}
 use Rattle.np_statements.proofs.AmongLemmas.{IsLeft, one_left}
 use Rattle.np_statements.proofs.EndLemmas.{AreEnds, ends_of-are}
 use Rattle.np_statements.proofs.FoundLemmas.{at_turn}
-use Rattle.np_statements.specs.AllPods.{AreSettled, HoldsOfPods, asks_at, asks_pods, is_any_pod, is_same, is_settled, question_of_pods}
-use Rattle.np_statements.specs.AskedLines.{IsQuestion}
-use Rattle.np_statements.specs.BrokenLines.{broken_by, broken_of}
-use Rattle.np_statements.specs.Ends.{all_works, ends_of, works_alone}
-use Rattle.np_statements.specs.FoundEnds.{asked_of}
 
 -- ---- what is asked
 

@@ -4,14 +4,9 @@ use Rattle.std.specs.Option.{option_or}
 use Rattle.std.specs.Prelude.{IsOk}
 use Rattle.std.proofs.lemmas.Bool.{false≢true, true≢false}
 use Rattle.std.proofs.lemmas.List.{at_drop_more, drop_all}
-use Rattle.np_check.specs.Firsts.{first_of}
-use Rattle.np_statements.specs.Types.{AskedLine, Broken, EndFault, EstateLists, StatementLine}
+use Rattle.np_check.specs.Prelude.{first_of}
+use Rattle.np_statements.specs.Prelude.{AskedLine, Broken, EndFault, EstateLists, GivesEnds, IsAsked, IsWellLine, StatementLine, asked_of, broken_among, broken_of, ends_found, first_broken, ◌>>=◌}
 use Rattle.np_statements.proofs.FoundLemmas.{asked-by, asked-known, found-behind}
-use Rattle.np_statements.specs.Answers.{GivesEnds}
-use Rattle.np_statements.specs.AskedLines.{IsAsked, IsWellLine}
-use Rattle.np_statements.specs.BrokenLines.{broken_among, broken_of, first_broken}
-use Rattle.np_statements.specs.FoundEnds.{asked_of, ends_found}
-use Rattle.np_statements.specs.Steps.{◌>>=◌}
 use Rattle.np_statements.specs.declared.end_fault.EndFault.TheVariants.{NoMemory, UnknownEnd}
 
 -- ---- the first of some lines

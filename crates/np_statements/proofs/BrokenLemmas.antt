@@ -8,23 +8,15 @@ use Rattle.np_check.proofs.FirstLemmas.{none_each}
 use Rattle.np_check.proofs.HoldLemmas.{found_none, holds}
 use Rattle.np_check.proofs.LeastLemmas.{first_broken as first_packet}
 use Rattle.np_check.proofs.NoneLemmas.{none_all, none_map}
-use Rattle.np_check.specs.Counterexamples.{complies, counterexample_of}
-use Rattle.np_check.specs.FirstPacket.{IsEndOf}
-use Rattle.np_check.specs.Firsts.{first_of}
-use Rattle.np_check.specs.Holding.{Holds, IsOf}
-use Rattle.np_statements.specs.Types.{Allow, AskedLine, At, Broken, Counterexample, Deny, Ends, EstateLists, PlaceEnd, Question, StatementLine, Wanted}
+use Rattle.np_check.specs.Prelude.{Holds, IsEndOf, IsOf, complies, counterexample_of, first_of}
+use Rattle.np_statements.specs.Prelude.{Allow, AskedLine, At, Broken, Counterexample, Deny, Ends, EstateLists, IsAsked, IsFirstBrokenLine, IsNamedPod, IsPlace, IsQuestion, IsWellLine, LineHolds, PlaceEnd, Question, StatementLine, Wanted, asked_of, broken_by, broken_of, ends_found, first_broken, is_allowed}
 use Rattle.np_check.specs.declared.counterexample.PlaceEnd.TheVariants.{Work}
-use Rattle.np_conns.specs.Conns.{has_spot}
-use Rattle.np_model.specs.Lawful.{IsLawful}
+use Rattle.np_conns.specs.Prelude.{has_spot}
+use Rattle.np_model.specs.Prelude.{IsLawful}
 use Rattle.np_statements.proofs.FormLemmas.{names-addresses, names-pods}
 use Rattle.np_statements.proofs.FoundLemmas.{AreFoundBy, IsAskedBy, all-known, asked-by, found-by}
 use Rattle.np_statements.proofs.StepLemmas.{same_ok}
-use Rattle.np_statements.specs.AskedLines.{IsAsked, IsQuestion, IsWellLine}
-use Rattle.np_statements.specs.BrokenLines.{IsPlace, broken_by, broken_of, first_broken, is_allowed}
-use Rattle.np_statements.specs.FirstBrokenLine.{IsFirstBrokenLine}
-use Rattle.np_statements.specs.FoundEnds.{asked_of, ends_found}
-use Rattle.np_statements.specs.Holding.{IsNamedPod, LineHolds}
-use Rattle.np_kinds.specs.Between.{IsWorkload}
+use Rattle.np_kinds.specs.Prelude.{IsWorkload}
 
 -- ---- one line
 

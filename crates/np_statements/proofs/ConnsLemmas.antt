@@ -7,15 +7,12 @@ use Rattle.std.proofs.lemmas.Option.{none-some, same_Some}
 use Rattle.std.proofs.lemmas.Slice.Eq.{bytes_eq-Decides}
 use Rattle.np_base.specs.Ranges.{IsAscending}
 use Rattle.np_base.proofs.Ranges.{IsAscending-earlier}
-use Rattle.np_statements.specs.Types.{Range, Sctp, Tcp, Udp}
+use Rattle.np_statements.specs.Prelude.{Range, Sctp, Tcp, Udp, all_conns, all_runs, choices, conns_read}
 use Rattle.np_base.proofs.Each.{All-weaker, All-parts, All-append}
 use Rattle.np_check.proofs.SortedLemmas.{each_map}
 use Rattle.np_conns.proofs.ConnLemmas.{spans_of-has_spot}
 use Rattle.np_conns.proofs.OneText.{conns_text-injective}
-use Rattle.np_conns.specs.Conns.{AscendsInPorts, Conns, IsConns, has_spot}
-use Rattle.np_conns.specs.ConnsText.{conns_text}
-use Rattle.np_conns.specs.Runs.{onto_runs, runs, runs_from}
-use Rattle.np_statements.specs.ReadConns.{all_conns, all_runs, choices, conns_read}
+use Rattle.np_conns.specs.Prelude.{AscendsInPorts, Conns, IsConns, conns_text, has_spot, onto_runs, runs, runs_from}
 use Rattle.np_rules.proofs.EachItem.{All-flat}
 
 -- ---- lists

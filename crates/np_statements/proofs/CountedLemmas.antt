@@ -6,10 +6,7 @@ use Rattle.std.proofs.lemmas.Bool.{eqb-true}
 use Rattle.std.proofs.lemmas.List.Elements.{All-cons, All-nil, All-weaker}
 use Rattle.std.proofs.lemmas.Option.{same_Some}
 use Rattle.std.proofs.lemmas.List.Splits.{length-slice_split, slice_split-cons_no, slice_split-cons_yes}
-use Rattle.np_statements.specs.Types.{StatementLine, StatementText}
-use Rattle.np_statements.specs.CountedLines.{IsLineOf, line_feeds}
-use Rattle.np_statements.specs.Lines.{at_line, line_read, lines_of, lines_read, statement_of, statements_of}
-use Rattle.np_statements.specs.Steps.{◌>>=◌}
+use Rattle.np_statements.specs.Prelude.{IsLineOf, StatementLine, StatementText, at_line, line_feeds, line_read, lines_of, lines_read, statement_of, statements_of, ◌>>=◌}
 
 abbrev pub is_feed : ℕ → Bool
 is_feed byte = byte == 10

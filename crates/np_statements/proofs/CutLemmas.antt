@@ -4,8 +4,7 @@ use Rattle.std.specs.Option.{option_and_then, option_or}
 use Rattle.std.proofs.lemmas.Bool.{eq-eqb, eqb-true, true≢false}
 use Rattle.std.proofs.lemmas.Option.{none-some, same_Some}
 use Rattle.np_check.proofs.FirstLemmas.{first_of-map, from_either, none_both}
-use Rattle.np_statements.specs.StatementGrammar.{Lacks}
-use Rattle.np_statements.specs.Cuts.{behind, first_cut, halves, has_mark}
+use Rattle.np_statements.specs.Prelude.{Lacks, behind, first_cut, halves, has_mark}
 
 -- ---- beginnings
 

@@ -1,6 +1,5 @@
 -- The workloads of a form. For `ends_of`, `is_in_namespace` and 2 more.
-use Rattle.std.proofs.Common.{◌≡◌, ℕ, zero, suc, ◌+◌, ◌<◌, nat_le, List, [], ◌∷◌, ◌++◌, Bool, true, false, Option, Some, None, Ok, All, length, get_or, slice_get, slice_index, refl, sym, ap}
-use Rattle.std.proofs.Common.{subst, ◌∙◌, arith, append-nil, zero-add}
+use Rattle.std.proofs.Common.{◌≡◌, ℕ, zero, suc, ◌+◌, ◌<◌, nat_le, List, [], ◌∷◌, ◌++◌, Bool, true, false, Option, Some, None, Ok, All, length, get_or, slice_get, slice_index, refl, sym, ap, subst, ◌∙◌, arith, append-nil, zero-add}
 use Rattle.std.specs.Prelude.{filter}
 use Rattle.std.specs.List.{range_with_len}
 use Rattle.std.specs.Option.{option_map_or}
@@ -9,16 +8,14 @@ use Rattle.std.proofs.lemmas.Bool.{and_from, le-leb, true≢false}
 use Rattle.std.proofs.lemmas.List.Elements.{All-cons, All-filter, All-nil, All-weaker, filter-append}
 use Rattle.std.proofs.lemmas.List.Quantifiers.{position-Some}
 use Rattle.std.proofs.lemmas.Option.{slice_get_read}
-use Rattle.np_addr.specs.Blocks.{AddressRanges}
-use Rattle.np_statements.specs.Types.{Addresses, Block, Cidr, EndForm, Ends, EstateLists, Namespace, Pod, Pods, Work}
+use Rattle.np_addr.specs.Prelude.{AddressRanges}
+use Rattle.np_statements.specs.Prelude.{Addresses, Block, Cidr, EndForm, Ends, EstateLists, Namespace, Pod, Pods, Work, addresses_alone, addresses_in, all_works, ends_of, every_address, is_address_form, is_in_namespace, named_alone, works_alone}
 use Rattle.np_check.proofs.FirstLemmas.{range-append}
 use Rattle.np_check.proofs.SortedLemmas.{filtered}
-use Rattle.np_check.specs.Numbers.{HasNoAddress, is_ascending}
-use Rattle.np_statements.specs.StatementGrammar.{is_address_form}
-use Rattle.np_fold.specs.Workloads.{Workload, folding_of, members_of, number_named}
+use Rattle.np_check.specs.Prelude.{HasNoAddress, is_ascending}
+use Rattle.np_fold.specs.Prelude.{Workload, folding_of, members_of, number_named}
 use Rattle.np_statements.proofs.StepLemmas.{same_ok}
-use Rattle.np_statements.specs.Ends.{addresses_alone, addresses_in, all_works, ends_of, every_address, is_in_namespace, named_alone, works_alone}
-use Rattle.np_kinds.specs.Between.{IsWorkload, number_of_workloads, source_pod}
+use Rattle.np_kinds.specs.Prelude.{IsWorkload, number_of_workloads, source_pod}
 
 -- ---- workloads of a namespace
 

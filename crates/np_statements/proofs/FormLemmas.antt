@@ -17,23 +17,20 @@ use Rattle.std.proofs.lemmas.Map.Text.{is_eq-slice_cmp}
 use Rattle.std.proofs.lemmas.Option.{slice_get-get_or}
 use Rattle.std.proofs.lemmas.Slice.Eq.{bytes_eq-Decides}
 use Rattle.np_base.proofs.Lists.{slice_get-some}
-use Rattle.np_addr.specs.Addresses.{IsAddress, cidr_has}
-use Rattle.np_addr.specs.Blocks.{AddressRanges, set_has}
-use Rattle.np_statements.specs.Types.{Address, Addresses, Block, EndForm, Ends, EstateLists, Namespace, Pod, Pods, Work}
+use Rattle.np_addr.specs.Prelude.{AddressRanges, IsAddress, cidr_has, set_has}
+use Rattle.np_statements.specs.Prelude.{Address, Addresses, Block, EndForm, Ends, EstateLists, NamesAddress, NamesPod, Namespace, Pod, Pods, Work, addresses_alone, addresses_in, all_works, ends_of, every_address, is_in_namespace, named_alone, no_address, works_alone}
 use Rattle.np_addr.specs.declared.address.Address.TheVariants as address
 use Rattle.np_check.proofs.MemberLemmas.{first_or_later, in_filter, in_range, nothing}
 use Rattle.np_classes.proofs.Lists.{no_position}
 use Rattle.np_classes.proofs.Relations.{firsts-le-count}
-use Rattle.np_model.specs.Lawful.{IsLawful}
+use Rattle.np_model.specs.Prelude.{IsLawful}
 use Rattle.np_fold.proofs.WorkloadLemmas.{number-in_workloads, one_workload, workloads-by_name}
-use Rattle.np_fold.specs.Workloads.{Workload, folding_of, name_of, number_named, number_of, pods_alike, workload_count, workloads_of}
+use Rattle.np_fold.specs.Prelude.{Workload, folding_of, name_of, number_named, number_of, pods_alike, workload_count, workloads_of}
 use Rattle.np_statements.proofs.AddressSetLemmas.{has-addresses_in, has-every_address}
 use Rattle.np_statements.proofs.EndLemmas.{named-within}
 use Rattle.np_statements.proofs.StepLemmas.{same_ok}
-use Rattle.np_statements.specs.Ends.{addresses_alone, addresses_in, all_works, ends_of, every_address, is_in_namespace, named_alone, no_address, works_alone}
-use Rattle.np_statements.specs.NamedEnds.{NamesAddress, NamesPod}
 use Rattle.np_kinds.proofs.MemberLemmas.{member-number, members-some, members-within, source-member}
-use Rattle.np_kinds.specs.Between.{IsWorkload, number_of_workloads, source_pod}
+use Rattle.np_kinds.specs.Prelude.{IsWorkload, number_of_workloads, source_pod}
 
 -- ---- workloads
 

@@ -6,15 +6,9 @@ use Rattle.std.specs.Prelude.{IsOk}
 use Rattle.std.proofs.lemmas.Bool.{and_cases, false≢true}
 use Rattle.std.proofs.lemmas.List.{at_drop_more, drop_all}
 use Rattle.std.proofs.lemmas.List.Elements.{All-cons, All-get_or, All-head, All-nil, All-same, All-tail}
-use Rattle.np_statements.specs.StatementGrammar.{is_address_form}
-use Rattle.np_statements.specs.Types.{AskedLine, Ends, EstateLists, StatementLine}
+use Rattle.np_statements.specs.Prelude.{AskedLine, Ends, EstateLists, IsAsked, IsWellLine, StatementLine, TellsUnknown, asked_of, ends_found, ends_of, is_address_form, ◌>>=◌}
 use Rattle.np_statements.proofs.EndLemmas.{ends_of-are}
 use Rattle.np_statements.proofs.StepLemmas.{after, after-none, same_ok, then-ok}
-use Rattle.np_statements.specs.Answers.{TellsUnknown}
-use Rattle.np_statements.specs.AskedLines.{IsAsked, IsWellLine}
-use Rattle.np_statements.specs.Ends.{ends_of}
-use Rattle.np_statements.specs.FoundEnds.{asked_of, ends_found}
-use Rattle.np_statements.specs.Steps.{◌>>=◌}
 
 -- ---- what is asked
 

@@ -6,18 +6,14 @@ use Rattle.std.proofs.lemmas.Bool.{and_from, and_parts, not-true, not_from_false
 use Rattle.std.proofs.lemmas.List.Elements.{All-from_recursion, recursion_from_All}
 use Rattle.std.proofs.lemmas.Option.{none-some, same_Some}
 use Rattle.std.proofs.lemmas.Slice.Eq.{bytes_eq-Decides}
-use Rattle.np_addr.specs.AddressGrammar.{cidr_of}
+use Rattle.np_addr.specs.Prelude.{cidr_of}
 use Rattle.np_check.proofs.FirstLemmas.{first_of-from, none_both, none_each}
 use Rattle.np_statements.proofs.OneStatement.{one_form, one_statement}
-use Rattle.np_check.specs.Firsts.{first_of}
-use Rattle.np_statements.specs.StatementGrammar.{IsEndText, IsSpelled, IsStatementText, IsWorkText, is_address_form, wanted_text}
-use Rattle.np_statements.specs.Types.{Addresses, Allow, Block, Deny, EndForm, Namespace, Pods, StatementText, Wanted, Work}
-use Rattle.np_model.specs.Words.{has_slash, is_name}
+use Rattle.np_check.specs.Prelude.{first_of}
+use Rattle.np_statements.specs.Prelude.{Addresses, Allow, Block, Deny, EndForm, IsEndText, IsSpelled, IsStatementText, IsWorkText, Namespace, Pods, StatementText, Wanted, Work, all_addresses, all_pods, behind, block, conns_read, end_read, first_cut, has_mark, is_address_form, is_work_text, namespace, said, said_between, statement_read, wanted_text, workload}
+use Rattle.np_model.specs.Prelude.{has_slash, is_name}
 use Rattle.np_statements.proofs.ConnsLemmas.{conns_read-is, conns_read-text}
 use Rattle.np_statements.proofs.CutLemmas.{behind-append, behind-is, by-lacks, first_cut-none, first_cut-some, if_some, lacks-by, then_some}
-use Rattle.np_statements.specs.Cuts.{behind, first_cut, has_mark}
-use Rattle.np_statements.specs.ReadConns.{conns_read}
-use Rattle.np_statements.specs.ReadStatement.{all_addresses, all_pods, block, end_read, is_work_text, namespace, said, said_between, statement_read, workload}
 
 -- ---- what a test admits
 

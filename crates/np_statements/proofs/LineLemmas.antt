@@ -9,18 +9,11 @@ use Rattle.std.proofs.lemmas.Str.{IsUtf8-from_is_utf8, is_utf8-from_IsUtf8}
 use Rattle.std.specs.Borrow.{Bor}
 use Rattle.np_addr.proofs.BlockLemmas.{rest_of_cleared}
 use Rattle.np_addr.proofs.GrammarLemmas.{cidr_text_iff}
-use Rattle.np_addr.specs.AddressGrammar.{block_of}
-use Rattle.np_addr.specs.Addresses.{IsCidr, family_of, width_of}
-use Rattle.np_statements.specs.Types.{Address, Addresses, Block, EndForm, FileFault, Four, Namespace, Pods, Six, StatementLine, StatementText, Work}
-use Rattle.np_statements.specs.StatementGrammar.{IsEndText, IsStatementText}
+use Rattle.np_addr.specs.Prelude.{IsCidr, block_of, family_of, width_of}
+use Rattle.np_statements.specs.Prelude.{Address, Addresses, Block, EndForm, FileFault, Four, GivesLines, IsEndText, IsStatementText, IsWellForm, IsWellLine, Namespace, Pods, Six, StatementLine, StatementText, Work, at_line, line_read, lines_of, lines_read, statement_of, statement_read, statements_of, ◌>>=◌}
 use Rattle.np_statements.proofs.CutLemmas.{if_some}
 use Rattle.np_statements.proofs.GrammarLemmas.{read-is, read-text}
 use Rattle.np_statements.proofs.StepLemmas.{after, after-none, same_ok, then-ok}
-use Rattle.np_statements.specs.Answers.{GivesLines}
-use Rattle.np_statements.specs.AskedLines.{IsWellForm, IsWellLine}
-use Rattle.np_statements.specs.Lines.{at_line, line_read, lines_of, lines_read, statement_of, statements_of}
-use Rattle.np_statements.specs.ReadStatement.{statement_read}
-use Rattle.np_statements.specs.Steps.{◌>>=◌}
 use Rattle.np_statements.specs.declared.file_fault.FileFault.TheVariants.{BadStatement, NoMemory}
 
 -- ---- one line

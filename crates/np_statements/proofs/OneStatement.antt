@@ -1,6 +1,5 @@
 -- A line is the text of one statement at most. For `one_statement_of_a_line`, `read_statement` and 2 more.
-use Rattle.std.proofs.Common.{◌≡◌, ◌≢◌, ℕ, ◌<◌, ◌==◌, List, [], ◌∷◌, ◌++◌, ◌⊎◌, true, false, Option, Some, None, All, length, drop, codes, slice_index, option_map, refl, sym, ap, subst, ◌∙◌, inl, inr}
-use Rattle.std.proofs.Common.{append_assoc, arith, if◌then◌else◌, lit≤}
+use Rattle.std.proofs.Common.{◌≡◌, ◌≢◌, ℕ, ◌<◌, ◌==◌, List, [], ◌∷◌, ◌++◌, ◌⊎◌, true, false, Option, Some, None, All, length, drop, codes, slice_index, option_map, refl, sym, ap, subst, ◌∙◌, inl, inr, append_assoc, arith, if◌then◌else◌, lit≤}
 use Rattle.std.proofs.lemmas.Bool.{and_from, cases_lt, true≢false}
 use Rattle.std.proofs.lemmas.List.{append_cancel_right}
 use Rattle.std.proofs.lemmas.List.Elements.{All-head, All-tail}
@@ -8,16 +7,12 @@ use Rattle.std.proofs.lemmas.Option.{same_Some}
 use Rattle.np_addr.proofs.CanonicalLemmas.{cidr_of-cidr_text}
 use Rattle.np_addr.proofs.GrammarLemmas.{cidr_text_iff}
 use Rattle.np_addr.proofs.PieceLemmas.{IsOther}
-use Rattle.np_addr.specs.AddressGrammar.{cidr_of}
-use Rattle.np_statements.specs.Types.{Addresses, Block, Cidr, EndForm, Namespace, Pods, StatementText, Wanted, Work}
+use Rattle.np_addr.specs.Prelude.{cidr_of}
+use Rattle.np_statements.specs.Prelude.{Addresses, Block, Cidr, EndForm, IsBefore, IsEndText, IsMark, IsStatementText, IsWellEnd, IsWellStatement, IsWithout, Namespace, Pods, StatementText, Wanted, Work, end_text, is_address_form, statement_text}
 use Rattle.np_statements.proofs.SideLemmas.{after_first, first_letter, named_side}
 use Rattle.np_statements.proofs.TextLemmas.{IsForeign, arrow_mark, before_arrow, before_colon, cidr_foreign, cidr_some, colon_mark, one_wanted, w_foreign}
-use Rattle.np_statements.specs.StatementGrammar.{IsEndText, IsStatementText, is_address_form}
-use Rattle.np_statements.specs.StatementTexts.{IsWellEnd, IsWellStatement, end_text, statement_text}
-use Rattle.np_statements.specs.Sides.{IsBefore, IsMark, IsWithout}
 use Rattle.np_conns.proofs.OneText.{conns_text-injective}
-use Rattle.np_conns.specs.Conns.{Conns, has_spot}
-use Rattle.np_conns.specs.ConnsText.{conns_text}
+use Rattle.np_conns.specs.Prelude.{Conns, conns_text, has_spot}
 
 -- ---- ends
 

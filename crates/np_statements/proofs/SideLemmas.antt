@@ -7,8 +7,7 @@ use Rattle.std.proofs.Math.Seq.{drop-append_seam}
 use Rattle.std.proofs.lemmas.Bool.{cases_lt}
 use Rattle.std.proofs.lemmas.List.{append_cancel_left, length-append}
 use Rattle.std.proofs.lemmas.Str.Pattern.{split_text_parts}
-use Rattle.np_statements.specs.StatementGrammar.{Lacks}
-use Rattle.np_statements.specs.Sides.{IsBefore, IsBehindFirst, IsMark, IsWithout}
+use Rattle.np_statements.specs.Prelude.{IsBefore, IsBehindFirst, IsMark, IsWithout, Lacks}
 
 -- ---- the first place of a mark
 

@@ -1,6 +1,6 @@
 -- Readings in steps. For `read_statements` and crates above.
 use Rattle.std.proofs.Common.{◌≡◌, List, [], ◌++◌, Result, Ok, Err, refl}
-use Rattle.np_statements.specs.Steps.{◌>>=◌}
+use Rattle.np_statements.specs.Prelude.{◌>>=◌}
 
 pub same_ok : {A E : Type 0} (a b : A) → ◌≡◌ {A = Result A E} (Ok a) (Ok b) → a ≡ b
 same_ok a b same = cc

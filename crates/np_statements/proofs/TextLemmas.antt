@@ -1,6 +1,5 @@
 -- What the texts of ends and of connections begin with, and what they lack. For `is_work_text`, `lacks` and `parts_of`.
-use Rattle.std.proofs.Common.{◌≡◌, ◌≢◌, ℕ, suc, ◌↔◌, MatchBool, get_or, ◌+◌, ◌<◌, ◌≤◌, ◌==◌, ◌&&◌, not, List, [], ◌∷◌, ◌++◌, Bool, true, false, Some, All, length, codes, refl, sym, ap, subst, ◌∙◌}
-use Rattle.std.proofs.Common.{inl, inr, append_assoc, arith, if◌then◌else◌, lit≤}
+use Rattle.std.proofs.Common.{◌≡◌, ◌≢◌, ℕ, suc, ◌↔◌, MatchBool, get_or, ◌+◌, ◌<◌, ◌≤◌, ◌==◌, ◌&&◌, not, List, [], ◌∷◌, ◌++◌, Bool, true, false, Some, All, length, codes, refl, sym, ap, subst, ◌∙◌, inl, inr, append_assoc, arith, if◌then◌else◌, lit≤}
 use Rattle.std.specs.Char.{digit_value}
 use Rattle.std.specs.List.{flat_map, join_by}
 use Rattle.std.specs.Str.Iter.{HasSubslice}
@@ -10,14 +9,11 @@ use Rattle.std.proofs.lemmas.List.Elements.{All-append, All-cons, All-head, All-
 use Rattle.np_addr.proofs.DottedLemmas.{dotted_others}
 use Rattle.np_addr.proofs.GrammarLemmas.{cidr_text_iff}
 use Rattle.np_addr.proofs.PieceLemmas.{IsOther, IsOther-from_digits}
-use Rattle.np_addr.specs.AddressGrammar.{cidr_of}
-use Rattle.np_addr.specs.TextForms.{AreGroups, IsAddressText, IsCidrText, IsDotted, IsSide as IsGroupSide}
-use Rattle.np_statements.specs.Types.{Address, Addresses, Allow, Block, Cidr, Deny, EndForm, Four, Namespace, Pods, PortSpot, Range, Sctp, Six, Tcp, Udp, Wanted, Work}
+use Rattle.np_addr.specs.Prelude.{AreGroups, IsAddressText, IsCidrText, IsDotted, IsSide as IsGroupSide, cidr_of}
+use Rattle.np_statements.specs.Prelude.{Address, Addresses, Allow, Block, Cidr, Deny, EndForm, Four, IsBefore, IsEndText, IsMark, IsSide, Lacks, Namespace, Pods, PortSpot, Range, Sctp, Six, Tcp, Udp, Wanted, Work, wanted_text}
 use Rattle.np_statements.proofs.SideLemmas.{same_head}
-use Rattle.np_statements.specs.StatementGrammar.{IsEndText, Lacks, wanted_text}
-use Rattle.np_statements.specs.Sides.{IsBefore, IsMark, IsSide}
-use Rattle.np_conns.specs.ConnsText.{conns_text, is_whole, joined, part, part_text, spans_of, text_of_runs}
-use Rattle.np_model.specs.Words.{has_slash, is_name, is_word, is_word_byte}
+use Rattle.np_conns.specs.Prelude.{conns_text, is_whole, joined, part, part_text, spans_of, text_of_runs}
+use Rattle.np_model.specs.Prelude.{has_slash, is_name, is_word, is_word_byte}
 
 -- ---- the marks
 

@@ -1,8 +1,8 @@
 -- Statements of any pod and any pod, asked at once.
 use Rattle.std.specs.Prelude.{◌≡◌, List, Bool, true, false, ◌&&◌, ◌||◌, All, None}
-use Rattle.np_check.specs.Counterexamples.{counterexample_of}
+use Rattle.np_check.specs.Prelude.{counterexample_of}
 use Rattle.np_statements.specs.Types.{Addresses, Allow, Block, CheckedKinds, Deny, EndForm, EstateLists, Namespace, Pods, PortSpot, Question, StatementLine, StatementText, Wanted, Work}
-use Rattle.np_conns.specs.Conns.{Conns, has_spot}
+use Rattle.np_conns.specs.Prelude.{Conns, has_spot}
 use Rattle.np_statements.specs.Ends.{all_works, works_alone}
 
 -- ---- which statements

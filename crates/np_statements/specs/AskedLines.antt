@@ -1,10 +1,10 @@
 -- What is known of the statements of a file, as they are read and with their ends found.
 use Rattle.std.specs.Prelude.{◌≡◌, ◌&&◌, true, false, All}
-use Rattle.np_addr.specs.Addresses.{IsCidr}
-use Rattle.np_check.specs.Numbers.{IsOneSided, is_ascending}
+use Rattle.np_addr.specs.Prelude.{IsCidr}
+use Rattle.np_check.specs.Prelude.{IsOneSided, is_ascending}
 use Rattle.np_statements.specs.StatementGrammar.{is_address_form}
 use Rattle.np_statements.specs.Types.{Addresses, AskedLine, Block, EndForm, EstateLists, Namespace, Pods, Question, StatementLine, Work}
-use Rattle.np_kinds.specs.Between.{IsWorkload}
+use Rattle.np_kinds.specs.Prelude.{IsWorkload}
 
 -- a block has no host bits
 abbrev pub IsWellForm : EndForm → Type 0

@@ -1,12 +1,11 @@
 -- The first line whose statement does not hold.
 use Rattle.std.specs.Prelude.{ℕ, List, Bool, Option, option_map, Result, Ok}
-use Rattle.np_check.specs.Counterexamples.{allows_between, counterexample_of}
-use Rattle.np_check.specs.Firsts.{first_of}
+use Rattle.np_check.specs.Prelude.{allows_between, counterexample_of, first_of}
 use Rattle.np_statements.specs.Types.{AskedLine, At, Broken, Counterexample, EstateLists, PlaceEnd, StatementLine}
 use Rattle.np_check.specs.declared.counterexample.PlaceEnd.TheVariants.{Work}
 use Rattle.np_statements.specs.FoundEnds.{ends_found}
 use Rattle.np_statements.specs.Steps.{◌>>=◌}
-use Rattle.np_kinds.specs.Between.{IsWorkload}
+use Rattle.np_kinds.specs.Prelude.{IsWorkload}
 
 -- whether a packet is allowed
 abbrev pub is_allowed : EstateLists → Counterexample → Bool

@@ -1,12 +1,12 @@
 -- The line that says how a statement is broken.
 use Rattle.std.specs.Prelude.{ℕ, List, [], ◌∷◌, ◌++◌, codes, decimal}
-use Rattle.np_addr.specs.AddressText.{address_text}
+use Rattle.np_addr.specs.Prelude.{address_text}
 use Rattle.np_statements.specs.Types.{At, Broken, EstateLists, Family, PlaceEnd}
 use Rattle.np_addr.specs.declared.address.Family.TheVariants.{Four, Six}
 use Rattle.np_check.specs.declared.counterexample.PlaceEnd.TheVariants.{Work}
-use Rattle.np_model.specs.Families.{families_of}
-use Rattle.np_fold.specs.Workloads.{folding_of, name_of}
-use Rattle.np_rules.specs.Texts.{said_text}
+use Rattle.np_model.specs.Prelude.{families_of}
+use Rattle.np_fold.specs.Prelude.{folding_of, name_of}
+use Rattle.np_rules.specs.Prelude.{said_text}
 
 -- an end of a packet: the name of its workload, or the canonical text of its address
 abbrev pub place_text : EstateLists → PlaceEnd → List ℕ

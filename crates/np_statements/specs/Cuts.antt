@@ -1,7 +1,7 @@
 -- Texts cut at marks.
 use Rattle.std.specs.Prelude.{ℕ, List, [], ◌∷◌, ◌==◌, Bool, map, Option, Some, None, is_some, if◌then◌else◌}
 use Rattle.std.specs.Option.{option_and_then}
-use Rattle.np_check.specs.Firsts.{first_of}
+use Rattle.np_check.specs.Prelude.{first_of}
 
 -- what stands in a text behind its beginning, where it begins so
 unfoldable pub behind : List ℕ → List ℕ → Option (List ℕ)

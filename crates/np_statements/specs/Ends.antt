@@ -3,11 +3,11 @@ use Rattle.std.specs.Prelude.{ℕ, ◌+◌, ◌-◌, ◌^◌, List, [], ◌∷�
 use Rattle.std.specs.List.{range_with_len}
 use Rattle.std.specs.Option.{option_map_or}
 use Rattle.std.specs.Str.{bytes_eq}
-use Rattle.np_addr.specs.Blocks.{AddressRanges}
+use Rattle.np_addr.specs.Prelude.{AddressRanges}
 use Rattle.np_statements.specs.Types.{Addresses, Block, Cidr, EndForm, Ends, EstateLists, Namespace, Pods, Work}
 use Rattle.np_addr.specs.declared.cidr.Cidr.TheVariants.{Four, Six}
-use Rattle.np_fold.specs.Workloads.{folding_of, number_named}
-use Rattle.np_kinds.specs.Between.{number_of_workloads, source_pod}
+use Rattle.np_fold.specs.Prelude.{folding_of, number_named}
+use Rattle.np_kinds.specs.Prelude.{number_of_workloads, source_pod}
 
 -- ---- workloads
 

@@ -1,7 +1,6 @@
 -- The first broken line of a file, by what it is.
 use Rattle.std.specs.Prelude.{◌≡◌, List, ◌∷◌, ◌++◌, false, All, Ok}
-use Rattle.np_check.specs.Counterexamples.{complies}
-use Rattle.np_check.specs.FirstPacket.{IsFirstBroken}
+use Rattle.np_check.specs.Prelude.{IsFirstBroken, complies}
 use Rattle.np_statements.specs.Types.{AskedLine, Broken, EstateLists, StatementLine}
 use Rattle.np_statements.specs.BrokenLines.{is_allowed}
 use Rattle.np_statements.specs.FoundEnds.{asked_of}

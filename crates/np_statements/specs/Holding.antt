@@ -1,15 +1,14 @@
 -- When a statement holds, for the pods and the addresses that its line names.
 use Rattle.std.specs.Prelude.{◌≡◌, ◌≢◌, ◌<◌, ℕ, true, Contains, length}
-use Rattle.np_addr.specs.Addresses.{IsAddress, family_of}
+use Rattle.np_addr.specs.Prelude.{IsAddress, family_of}
 use Rattle.np_statements.specs.Types.{Address, EndForm, EstateLists, Family, PortSpot, StatementLine, StatementText}
-use Rattle.np_check.specs.Counterexamples.{complies, number_of_address}
-use Rattle.np_conns.specs.Conns.{has_spot, is_spot}
-use Rattle.np_model.specs.Families.{families_of}
+use Rattle.np_check.specs.Prelude.{complies, number_of_address}
+use Rattle.np_conns.specs.Prelude.{has_spot, is_spot}
+use Rattle.np_model.specs.Prelude.{families_of}
 use Rattle.np_model.specs.declared.direction.Direction.TheVariants.{Egress, Ingress}
-use Rattle.np_rules.specs.model.Ends.{pod}
-use Rattle.np_rules.specs.model.Verdict.{pod_at}
+use Rattle.np_rules.specs.Prelude.{pod, pod_at}
 use Rattle.np_statements.specs.NamedEnds.{NamesAddress, NamesPod}
-use Rattle.np_kinds.specs.Between.{between_pods, with_address}
+use Rattle.np_kinds.specs.Prelude.{between_pods, with_address}
 
 -- a place of a pod that the form names
 abbrev pub IsNamedPod : EstateLists → EndForm → ℕ → Type 0

@@ -12,6 +12,7 @@ pub mod FoundEnds
 pub mod Holding
 pub mod Lines
 pub mod NamedEnds
+pub mod Prelude
 pub mod ReadConns
 pub mod ReadStatement
 pub mod Sides

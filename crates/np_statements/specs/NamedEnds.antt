@@ -1,8 +1,8 @@
 -- The pods and the addresses that a form names.
 use Rattle.std.specs.Prelude.{◌≡◌, ℕ, true, IsSomeAnd, slice_get}
-use Rattle.np_addr.specs.Addresses.{cidr_has}
+use Rattle.np_addr.specs.Prelude.{cidr_has}
 use Rattle.np_statements.specs.Types.{Address, Addresses, Block, EndForm, EstateLists, Namespace, Pods, Work}
-use Rattle.np_fold.specs.Workloads.{folding_of, name_of, number_of}
+use Rattle.np_fold.specs.Prelude.{folding_of, name_of, number_of}
 
 -- the form names the pod at a place
 abbrev pub NamesPod : EstateLists → EndForm → ℕ → Type 0

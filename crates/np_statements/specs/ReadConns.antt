@@ -3,9 +3,7 @@ use Rattle.std.specs.Prelude.{ℕ, zero, suc, ◌+◌, List, [], ◌∷◌, ◌+
 use Rattle.std.specs.List.{find}
 use Rattle.std.specs.Str.{bytes_eq}
 use Rattle.np_statements.specs.Types.{Range}
-use Rattle.np_conns.specs.Conns.{Conns, has_spot}
-use Rattle.np_conns.specs.ConnsText.{conns_text}
-use Rattle.np_conns.specs.Runs.{onto_runs}
+use Rattle.np_conns.specs.Prelude.{Conns, conns_text, has_spot, onto_runs}
 
 -- the runs of every choice among so many ports from one on: the first port is left out, or put before the runs of those above it
 unfoldable pub choices : ℕ → ℕ → List (List (Range ℕ))

@@ -2,12 +2,11 @@
 use Rattle.std.specs.Prelude.{ℕ, List, [], ◌∷◌, ◌++◌, Bool, ◌&&◌, not, codes, Option, Some, None, option_map, if◌then◌else◌}
 use Rattle.std.specs.Option.{option_and_then}
 use Rattle.std.specs.Str.{bytes_eq}
-use Rattle.np_addr.specs.AddressGrammar.{cidr_of}
-use Rattle.np_addr.specs.Steps.{◌>>=◌}
-use Rattle.np_check.specs.Firsts.{first_of}
+use Rattle.np_addr.specs.Prelude.{cidr_of, ◌>>=◌}
+use Rattle.np_check.specs.Prelude.{first_of}
 use Rattle.np_statements.specs.StatementGrammar.{is_address_form, wanted_text}
 use Rattle.np_statements.specs.Types.{Addresses, Allow, Block, Deny, EndForm, Namespace, Pods, StatementText, Wanted, Work}
-use Rattle.np_model.specs.Words.{has_slash, is_name}
+use Rattle.np_model.specs.Prelude.{has_slash, is_name}
 use Rattle.np_statements.specs.Cuts.{behind, first_cut, has_mark}
 use Rattle.np_statements.specs.ReadConns.{conns_read}
 

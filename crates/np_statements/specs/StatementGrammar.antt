@@ -1,10 +1,9 @@
 -- The lines of statements, by how they are put together.
 use Rattle.std.specs.Prelude.{◌≡◌, ◌≢◌, ℕ, List, ◌++◌, Bool, true, false, ◌&&◌, Some, codes}
-use Rattle.np_addr.specs.AddressGrammar.{cidr_of}
+use Rattle.np_addr.specs.Prelude.{cidr_of}
 use Rattle.np_statements.specs.Types.{Addresses, Allow, Block, Deny, EndForm, Namespace, Pods, StatementText, Wanted, Work}
-use Rattle.np_conns.specs.Conns.{IsConns, has_spot}
-use Rattle.np_conns.specs.ConnsText.{conns_text}
-use Rattle.np_model.specs.Words.{has_slash, is_name}
+use Rattle.np_conns.specs.Prelude.{IsConns, conns_text, has_spot}
+use Rattle.np_model.specs.Prelude.{has_slash, is_name}
 
 -- ---- ends
 

@@ -1,13 +1,10 @@
 -- The text of a statement, as one would write it.
 use Rattle.std.specs.Prelude.{◌≡◌, ℕ, List, ◌++◌, true, false, ◌&&◌, codes}
-use Rattle.np_addr.specs.Addresses.{IsAddress, IsCidr}
-use Rattle.np_addr.specs.AddressText.{cidr_text}
-use Rattle.np_addr.specs.Blocks.{base_of}
+use Rattle.np_addr.specs.Prelude.{IsAddress, IsCidr, base_of, cidr_text}
 use Rattle.np_statements.specs.StatementGrammar.{IsWorkText, is_address_form, wanted_text}
 use Rattle.np_statements.specs.Types.{Addresses, Block, EndForm, Namespace, Pods, StatementText, Work}
-use Rattle.np_conns.specs.Conns.{IsConns, has_spot}
-use Rattle.np_conns.specs.ConnsText.{conns_text}
-use Rattle.np_model.specs.Words.{is_name}
+use Rattle.np_conns.specs.Prelude.{IsConns, conns_text, has_spot}
+use Rattle.np_model.specs.Prelude.{is_name}
 
 abbrev pub end_text : EndForm → List ℕ
 end_text Pods = codes "any pod"

@@ -1,7 +1,7 @@
 //! Statements of any pod and any pod, asked at once.
 ghost use Rattle.std.specs.Prelude.{◌≡◌, true, All, IfOk};
 ghost use Rattle.std.specs.List.{list_any};
-ghost use Rattle.np_conns.specs.Conns.{has_spot};
+ghost use Rattle.np_conns.specs.Prelude.{has_spot};
 ghost use Rattle.np_conns.specs.declared.port_spot.PortSpot.{PortSpot};
 ghost use Rattle.np_statements.specs.AllPods as spec;
 ghost use Rattle.np_statements.specs.AllPods.{AreSettled, HoldsOfPods};

@@ -1,10 +1,8 @@
 //! The first line that does not hold.
 ghost use Rattle.std.specs.Prelude.{◌≡◌, All, IfOk, IfSome, false};
-ghost use Rattle.np_check.specs.Counterexamples.{complies, counterexample_of};
-ghost use Rattle.np_statements.specs.Answers.{GivesEnds};
-ghost use Rattle.np_statements.specs.AskedLines.{IsAsked, IsQuestion, IsWellLine};
+ghost use Rattle.np_check.specs.Prelude.{complies, counterexample_of};
+ghost use Rattle.np_statements.specs.Prelude.{GivesEnds, HasPlaces, IsAsked, IsQuestion, IsWellLine};
 ghost use Rattle.np_statements.specs.BrokenLines as spec;
-ghost use Rattle.np_statements.specs.BrokenLines.{HasPlaces};
 
 use crate::all_pods::CheckedKinds;
 use crate::asked_line::AskedLine;

@@ -1,11 +1,10 @@
 //! The ends that a form of a statement names.
 ghost use Rattle.std.specs.Prelude.{◌≡◌, ◌<◌, IfOk, filter};
 ghost use Rattle.std.specs.List.{range_with_len};
-ghost use Rattle.np_fold.specs.Workloads.{folding_of, number_named};
-ghost use Rattle.np_statements.specs.Answers.{GivesEnds};
-ghost use Rattle.np_statements.specs.AskedLines.{IsWellForm};
+ghost use Rattle.np_fold.specs.Prelude.{folding_of, number_named};
+ghost use Rattle.np_statements.specs.Prelude.{GivesEnds, IsWellForm};
 ghost use Rattle.np_statements.specs.Ends as spec;
-ghost use Rattle.np_kinds.specs.Between.{IsWorkload};
+ghost use Rattle.np_kinds.specs.Prelude.{IsWorkload};
 
 use crate::end_fault::EndFault;
 use crate::statement_text::EndForm;

@@ -1,8 +1,6 @@
 //! Finding the ends of statements.
 ghost use Rattle.std.specs.Prelude.{◌≡◌};
-ghost use Rattle.np_statements.specs.Answers.{GivesEnds, TellsUnknown};
-ghost use Rattle.np_statements.specs.AskedLines.{IsWellLine};
-ghost use Rattle.np_statements.specs.Ends.{ends_of};
+ghost use Rattle.np_statements.specs.Prelude.{GivesEnds, IsWellLine, TellsUnknown, ends_of};
 ghost use Rattle.np_statements.specs.FoundEnds as spec;
 
 use crate::asked_line::AskedLine;

@@ -9,8 +9,7 @@ ghost use Rattle.np_statements.specs.Sides as sides;
 ghost use Rattle.np_statements.specs.declared.statement_text.EndForm.{EndForm};
 ghost use Rattle.np_statements.specs.declared.statement_text.StatementText.{StatementText};
 ghost use Rattle.np_check.specs.declared.question.Wanted.{Wanted};
-ghost use Rattle.np_conns.specs.Conns.{Conns, IsConns, has_spot};
-ghost use Rattle.np_conns.specs.ConnsText.{conns_text};
+ghost use Rattle.np_conns.specs.Prelude.{Conns, IsConns, conns_text, has_spot};
 
 use crate::statement_text::{EndForm, StatementFault, StatementText};
 use np_addr::read_cidr;

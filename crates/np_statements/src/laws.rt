@@ -1,31 +1,20 @@
 //! What follows from the definitions. Each law is the contract of a call that does nothing.
 ghost use Rattle.std.specs.Prelude.{◌≡◌, ◌≢◌, ◌<◌, ◌↔◌, ℕ, List, [], None, Some, Ok, Err, All, Contains, length, true};
-ghost use Rattle.np_addr.specs.Addresses.{IsAddress};
-ghost use Rattle.np_addr.specs.Blocks.{set_has};
+ghost use Rattle.np_addr.specs.Prelude.{IsAddress, set_has};
 ghost use Rattle.np_addr.specs.declared.address.Address.{Address};
-ghost use Rattle.np_check.specs.Holding.{Holds};
-ghost use Rattle.np_statements.specs.StatementGrammar.{IsStatementText};
+ghost use Rattle.np_check.specs.Prelude.{Holds};
+ghost use Rattle.np_statements.specs.Prelude.{IsFirstBrokenLine, IsLineOf, IsStatementText, IsWellStatement, LineHolds, NamesAddress, NamesPod, asked_of, ends_found, ends_of, first_broken, statement_of, statement_read, statement_text, statements_of};
 ghost use Rattle.np_check.specs.declared.question.Ends.{Ends};
 ghost use Rattle.np_statements.specs.declared.statement_text.EndForm.{EndForm};
 ghost use Rattle.np_statements.specs.declared.statement_text.EndForm.TheVariants.{Work};
 ghost use Rattle.np_statements.specs.declared.statement_text.StatementText.{StatementText};
-ghost use Rattle.np_model.specs.Lawful.{IsLawful};
+ghost use Rattle.np_model.specs.Prelude.{IsLawful};
 ghost use Rattle.np_model.specs.declared.lists.EstateLists.{EstateLists};
-ghost use Rattle.np_fold.specs.Workloads.{folding_of, name_of, number_of};
-ghost use Rattle.np_statements.specs.BrokenLines.{first_broken};
-ghost use Rattle.np_statements.specs.Ends.{ends_of};
-ghost use Rattle.np_statements.specs.FirstBrokenLine.{IsFirstBrokenLine};
-ghost use Rattle.np_statements.specs.FoundEnds.{asked_of, ends_found};
-ghost use Rattle.np_statements.specs.Holding.{LineHolds};
-ghost use Rattle.np_statements.specs.CountedLines.{IsLineOf};
-ghost use Rattle.np_statements.specs.Lines.{statement_of, statements_of};
-ghost use Rattle.np_statements.specs.NamedEnds.{NamesAddress, NamesPod};
-ghost use Rattle.np_statements.specs.ReadStatement.{statement_read};
-ghost use Rattle.np_statements.specs.StatementTexts.{IsWellStatement, statement_text};
+ghost use Rattle.np_fold.specs.Prelude.{folding_of, name_of, number_of};
 ghost use Rattle.np_statements.specs.declared.asked_line.AskedLine.{AskedLine};
 ghost use Rattle.np_statements.specs.declared.broken.Broken.{Broken};
 ghost use Rattle.np_statements.specs.declared.statement_line.StatementLine.{StatementLine};
-ghost use Rattle.np_kinds.specs.Between.{IsWorkload};
+ghost use Rattle.np_kinds.specs.Prelude.{IsWorkload};
 
 /// A line is read as the statement whose text it is, and as none where it is that of no statement.
 pub fn lines_are_read_by_the_grammar()

@@ -1,7 +1,7 @@
 //! The line that says how a statement is broken.
 ghost use Rattle.std.specs.Prelude.{◌≡◌, ◌++◌, IfOk, string_bytes};
-ghost use Rattle.np_model.specs.Families.{families_of};
-ghost use Rattle.np_statements.specs.BrokenLines.{HasPlaces, IsPlace};
+ghost use Rattle.np_model.specs.Prelude.{families_of};
+ghost use Rattle.np_statements.specs.Prelude.{HasPlaces, IsPlace};
 ghost use Rattle.np_statements.specs.BrokenText as spec;
 
 use crate::broken::Broken;

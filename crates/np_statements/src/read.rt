@@ -1,8 +1,7 @@
 //! Reading a file of statements.
 ghost use Rattle.std.specs.Prelude.{◌≡◌, ◌++◌, All, IfOk, IsErrOf, None, Some, map, option_to_list};
 ghost use Rattle.np_statements.specs.declared.statement_text.StatementFault.TheVariants.{BadStatement};
-ghost use Rattle.np_statements.specs.Answers.{GivesLines};
-ghost use Rattle.np_statements.specs.AskedLines.{IsWellLine};
+ghost use Rattle.np_statements.specs.Prelude.{GivesLines, IsWellLine};
 ghost use Rattle.np_statements.specs.Lines as spec;
 
 use crate::file_fault::FileFault;

@@ -1,20 +1,15 @@
 -- What passes at each address, as the one right list of ranges. For `conns_at` and `rows_by_addresses`.
 use Rattle.std.proofs.Common.{◌≡◌, ◌≤◌, ◌-◌, ◌^◌, ◌++◌, ℕ, List, Bool, true, false, ◌&&◌, map, lit≤, refl, ◌∙◌}
 use Rattle.std.proofs.lemmas.Bool.{and_from, le-leb}
-use Rattle.np_table.specs.Types.{Direction, Egress, EstateLists, Family, Four, Ingress, Piece, PortSpot, Six}
+use Rattle.np_table.specs.Prelude.{Direction, Egress, EstateLists, Family, Four, Ingress, Piece, PortSpot, Six, address_row, four_of, rows_of_addresses, six_of, stretches_of, walk}
 use Rattle.np_base.specs.declared.beside.Beside.{Beside}
 use Rattle.np_base.specs.declared.beside.Which.TheVariants.{First, Second}
-use Rattle.np_conns.specs.Conns.{Conns, IsConns, has_spot, is_spot}
-use Rattle.np_pieces.specs.Pieces.{Covers, has_at}
+use Rattle.np_conns.specs.Prelude.{Conns, IsConns, has_spot, is_spot}
+use Rattle.np_pieces.specs.Prelude.{Covers, has_at}
 use Rattle.np_table.proofs.RangeOneList.{right-walk, walk-agrees}
 use Rattle.np_table.proofs.RangePieces.{Covers-right}
-use Rattle.np_table.specs.Right.{stretches_of, walk}
-use Rattle.np_rules.specs.model.Ends.{PodEnd, pod}
-use Rattle.np_rules.specs.EveryAddress.{AddressSpot, address_contact, has_address_spot, is_address_spot}
-use Rattle.np_rules.specs.model.Sides.{side_allows}
-use Rattle.np_rules.specs.model.Verdict.{allows}
-use Rattle.np_table.specs.Rows.{address_row, four_of, rows_of_addresses, six_of}
-use Rattle.np_kinds.specs.Between.{with_address}
+use Rattle.np_rules.specs.Prelude.{AddressSpot, PodEnd, address_contact, allows, has_address_spot, is_address_spot, pod, side_allows}
+use Rattle.np_kinds.specs.Prelude.{with_address}
 
 -- ---- pieces
 

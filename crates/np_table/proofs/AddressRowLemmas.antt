@@ -4,23 +4,18 @@ use Rattle.std.specs.Prelude.{filter}
 use Rattle.std.proofs.lemmas.Bool.{and_left, and_parts, and_right, leb-true, ne_eqb}
 use Rattle.std.proofs.lemmas.List.Elements.{All-cons, All-filter, All-head, All-nil, All-same, All-weaker, filter-append, filter_passes}
 use Rattle.std.proofs.lemmas.List.Sums.{length-filter}
-use Rattle.np_table.specs.Types.{AddressRow, Direction, Egress, EstateLists, Family, Four, Ingress, PortSpot, Row, RowKey, Six}
-use Rattle.np_conns.specs.Conns.{Conns, has_spot}
-use Rattle.np_model.specs.Lawful.{IsLawful}
-use Rattle.np_fold.specs.Workloads.{Folding, folding_of, number_of}
-use Rattle.np_rules.specs.model.Ends.{pod}
-use Rattle.np_rules.specs.model.Verdict.{pod_at}
+use Rattle.np_table.specs.Prelude.{AddressRow, AreRight, Direction, Egress, EstateLists, Family, Four, Ingress, IsInFamily, OneRowSays, PortSpot, Row, RowKey, Six, Stretch, Table, address_row, address_rows, all_address_rows, all_pair_rows, all_rows, conns_of, four_of, is_address, is_of_address, is_within, is_workload, pair_key, pair_rows, row_of, rows_of_address, rows_of_addresses, rows_towards, six_of, span_has, table_of, walk, workloads}
+use Rattle.np_conns.specs.Prelude.{Conns, has_spot}
+use Rattle.np_model.specs.Prelude.{IsLawful}
+use Rattle.np_fold.specs.Prelude.{Folding, folding_of, number_of}
+use Rattle.np_rules.specs.Prelude.{pod, pod_at}
 use Rattle.np_kinds.proofs.PairLemmas.{with_address-address_allows}
 use Rattle.np_table.proofs.RangeCounts.{one_range}
 use Rattle.np_table.proofs.RangeWalks.{walk-right}
 use Rattle.np_table.proofs.RowLemmas.{HasKey, filter-by, filter-flat_map, filter-map, filter-map_none, pair_rows-key, range-none, range-only}
 use Rattle.np_table.proofs.SaidLemmas.{number-within}
 use Rattle.np_table.proofs.SetLemmas.{has_spot-conns_of}
-use Rattle.np_table.specs.Right.{AreRight, Stretch, conns_of, is_within, walk}
-use Rattle.np_table.specs.Rows.{address_row, address_rows, all_address_rows, all_pair_rows, all_rows, four_of, pair_key, pair_rows, row_of, rows_of_addresses, rows_towards, six_of, workloads}
-use Rattle.np_table.specs.Said.{IsInFamily, OneRowSays, is_address, is_of_address, is_workload, rows_of_address, span_has}
-use Rattle.np_table.specs.Table.{Table, table_of}
-use Rattle.np_kinds.specs.Between.{address_allows, with_address}
+use Rattle.np_kinds.specs.Prelude.{address_allows, with_address}
 
 -- ---- the range of an address
 

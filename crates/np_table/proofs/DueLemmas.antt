@@ -4,10 +4,8 @@ use Rattle.std.specs.List.{range_with_len}
 use Rattle.std.proofs.Math.Nat.{div-lt_iff_lt-mul, mod-lt, mul-le-mul_left, mul-le-mul_right}
 use Rattle.std.proofs.lemmas.Bool.{cases_lt, cases_order, lt-ltb, le-ltb}
 use Rattle.std.proofs.lemmas.Nat.{div-add-mod', div-mul-add}
-use Rattle.np_table.specs.Types.{CachedConns, EstateLists}
-use Rattle.np_fold.specs.Workloads.{Folding}
-use Rattle.np_table.specs.RowCache.{cached_count}
-use Rattle.np_table.specs.ToCome.{IsOfSameSource, due_at, due_from, most_rules, greatest, pair_count, place_count}
+use Rattle.np_table.specs.Prelude.{CachedConns, EstateLists, IsOfSameSource, cached_count, due_at, due_from, greatest, most_rules, pair_count, place_count}
+use Rattle.np_fold.specs.Prelude.{Folding}
 
 -- ---- the greatest number
 

@@ -1,8 +1,7 @@
 -- What is kept for kinds. For `RowCache::keep` and `make_places`.
 use Rattle.std.proofs.Common.{◌≡◌, ◌<◌, ◌≤◌, ◌+◌, ℕ, zero, suc, List, [], ◌∷◌, ◌++◌, Option, Some, None, is_some, length, set, arith, refl, ap, ◌∙◌, cond}
 use Rattle.std.proofs.lemmas.List.Sums.{count_by-le-length, sum_by-cons}
-use Rattle.np_table.specs.RowCache.{CachesTheSame, cached_at, cached_count}
-use Rattle.np_table.specs.Types.{CachedConns}
+use Rattle.np_table.specs.Prelude.{CachedConns, CachesTheSame, cached_at, cached_count}
 
 -- ---- counts by one place
 

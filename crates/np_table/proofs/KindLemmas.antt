@@ -1,24 +1,18 @@
 -- Rows of destinations of one kind, and what is kept of them. For `Rows::new`, `address_rows_at` and 4 more.
-use Rattle.std.proofs.Common.{◌≡◌, ◌≢◌, ◌<◌, ◌≤◌, ◌+◌, ◌*◌, ◌-◌, ◌/◌, ◌%◌, ℕ, zero, suc, List, [], ◌∷◌, ◌++◌, Bool, true, false, Option, Some, None, length, map, max, slice_index, arith, refl, sym}
-use Rattle.std.proofs.Common.{ap, subst, ◌∙◌, inl, inr, if◌then◌else◌}
+use Rattle.std.proofs.Common.{◌≡◌, ◌≢◌, ◌<◌, ◌≤◌, ◌+◌, ◌*◌, ◌-◌, ◌/◌, ◌%◌, ℕ, zero, suc, List, [], ◌∷◌, ◌++◌, Bool, true, false, Option, Some, None, length, map, max, slice_index, arith, refl, sym, ap, subst, ◌∙◌, inl, inr, if◌then◌else◌}
 use Rattle.std.specs.Option.{option_map}
 use Rattle.std.proofs.Math.Nat.{mul-le-mul_left}
 use Rattle.std.proofs.lemmas.Bool.Decides.{eqb_tells}
-use Rattle.np_table.specs.Types.{CachedConns, Direction, Egress, EstateLists, Family, Four, Ingress, PortSpot, Row, RowKey, Sctp, Six, Tcp, Udp}
-use Rattle.np_conns.specs.Conns.{Conns, has_spot}
-use Rattle.np_model.specs.Lawful.{IsLawful}
-use Rattle.np_fold.specs.Workloads.{Folding, folding_of}
+use Rattle.np_table.specs.Prelude.{CachedConns, CachesAlso, CachesTheSame, Direction, Egress, EstateLists, Family, Four, Ingress, IsCached, PortSpot, Row, RowKey, Sctp, Six, Tcp, Udp, are_same_conns, cached_at, cached_count, cached_of, conns_of, is_nothing, most_rules, pair_key, pair_rows, row_if, row_with, rows_in, rows_of_both, rules_of, table_of}
+use Rattle.np_conns.specs.Prelude.{Conns, has_spot}
+use Rattle.np_model.specs.Prelude.{IsLawful}
+use Rattle.np_fold.specs.Prelude.{Folding, folding_of}
 use Rattle.np_table.proofs.RangeSets.{conns_of-agrees, conns_of-has_spot}
-use Rattle.np_table.specs.Right.{are_same_conns, conns_of}
 use Rattle.np_table.proofs.DueLemmas.{greatest-at, same_source, source-behind}
 use Rattle.np_table.proofs.KeptLemmas.{cached_count-below}
 use Rattle.np_kinds.proofs.KindNumbers.{kinds-by}
 use Rattle.np_kinds.proofs.PairLemmas.{pair_allows-alone, pair_allows-kinds}
-use Rattle.np_table.specs.RowCache.{IsCached, CachesAlso, CachesTheSame, cached_at, cached_count, cached_of, row_with}
-use Rattle.np_table.specs.Rows.{is_nothing, pair_key, pair_rows, row_if, rows_in, rows_of_both}
-use Rattle.np_kinds.specs.Between.{is_alone, pair_allows}
-use Rattle.np_table.specs.Table.{table_of}
-use Rattle.np_table.specs.ToCome.{most_rules, rules_of}
+use Rattle.np_kinds.specs.Prelude.{is_alone, pair_allows}
 
 -- ---- rows with other ends
 

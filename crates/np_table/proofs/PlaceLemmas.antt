@@ -1,17 +1,13 @@
 -- The rows from place to place are all rows of a table. For `Rows::new`, `Rows::next` and 2 more.
-use Rattle.std.proofs.Common.{◌≡◌, ℕ, zero, suc, ◌+◌, ◌-◌, ◌*◌, ◌/◌, ◌%◌, ◌<◌, ◌≤◌, List, [], ◌∷◌, ◌++◌, length, flat_map, reverse, Bool, true, false, nat_lt, refl, sym, ap, subst, ◌∙◌, arith}
-use Rattle.std.proofs.Common.{append_assoc, append-nil, if◌then◌else◌}
+use Rattle.std.proofs.Common.{◌≡◌, ℕ, zero, suc, ◌+◌, ◌-◌, ◌*◌, ◌/◌, ◌%◌, ◌<◌, ◌≤◌, List, [], ◌∷◌, ◌++◌, length, flat_map, reverse, Bool, true, false, nat_lt, refl, sym, ap, subst, ◌∙◌, arith, append_assoc, append-nil, if◌then◌else◌}
 use Rattle.std.specs.List.{range_with_len}
 use Rattle.std.proofs.lemmas.Bool.{lt-ltb, le-ltb}
 use Rattle.std.proofs.lemmas.Grind.{flat_map-append}
 use Rattle.std.proofs.lemmas.List.{length-map, reverse-reverse}
 use Rattle.std.proofs.lemmas.Nat.{div-mul-add, mod-mul-add}
 use Rattle.std.proofs.Math.Nat.{mul-le-mul_right}
-use Rattle.np_table.specs.Types.{Egress, EstateLists, Ingress, Row}
-use Rattle.np_fold.specs.Workloads.{Folding}
-use Rattle.np_table.specs.Rows.{all_address_rows, all_pair_rows, all_rows, pair_rows, rows_towards, workloads}
-use Rattle.np_table.specs.Table.{Table, table_of}
-use Rattle.np_table.specs.ToCome.{address_rows_at, pair_count, pair_rows_at, place_count, rows_at, rows_from}
+use Rattle.np_table.specs.Prelude.{Egress, EstateLists, Ingress, Row, Table, address_rows_at, all_address_rows, all_pair_rows, all_rows, pair_count, pair_rows, pair_rows_at, place_count, rows_at, rows_from, rows_towards, table_of, workloads}
+use Rattle.np_fold.specs.Prelude.{Folding}
 
 -- ---- numbers in a row
 

@@ -2,9 +2,8 @@
 use Rattle.std.proofs.Common.{◌≡◌, ℕ, ◌+◌, ◌<◌, ◌≤◌, List, [], ◌∷◌, Bool, true, false, Option, Some, None, cond, count_by, refl, ◌∙◌, ap, zero-add, arith, inl, inr}
 use Rattle.std.proofs.lemmas.Bool.{and_from, and_left, and_right, cases_lt, le-leb, lt-leb}
 use Rattle.std.proofs.lemmas.List.Sums.{sum_by-cons}
-use Rattle.np_conns.specs.Conns.{Conns}
-use Rattle.np_table.specs.Types.{PortSpot}
-use Rattle.np_table.specs.Right.{AreRight, IsRight, Stretch, is_within}
+use Rattle.np_conns.specs.Prelude.{Conns}
+use Rattle.np_table.specs.Prelude.{AreRight, IsRight, PortSpot, Stretch, is_within}
 
 -- a stretch counts once where it has the number, and else not
 count_by-first : (n : ℕ) (stretch : Stretch) (stretches : List Stretch) → count_by (is_within n) (stretch ∷ stretches) ≡ cond (is_within n stretch) 1 0 + count_by (is_within n) stretches

@@ -1,11 +1,10 @@
 -- No two lists are right. For `equal_tests_have_one_list`, `one_list_is_right` and crates above.
 use Rattle.std.proofs.Common.{◌≡◌, ℕ, ◌+◌, ◌<◌, ◌≤◌, List, [], ◌∷◌, Bool, true, Option, Some, None, refl, sym, ◌∙◌, ap, arith, inl, inr}
 use Rattle.std.proofs.lemmas.Bool.{cases_order}
-use Rattle.np_conns.specs.Conns.{Conns, is_spot}
-use Rattle.np_table.specs.Types.{PortSpot}
+use Rattle.np_conns.specs.Prelude.{Conns, is_spot}
+use Rattle.np_table.specs.Prelude.{AreRight, IsRight, PortSpot, Stretch, conns_of, walk}
 use Rattle.np_table.proofs.RangeSets.{conns_of-agrees}
 use Rattle.np_table.proofs.RangeWalks.{walk-right}
-use Rattle.np_table.specs.Right.{AreRight, IsRight, Stretch, conns_of, walk}
 
 -- stretches do not end before they begin
 AreRight-ordered : (passes : ℕ → PortSpot → Bool) (from to : ℕ) (before : Option Conns) (stretches : List Stretch) → AreRight passes from to before stretches → from ≤ to

@@ -4,11 +4,9 @@ use Rattle.std.proofs.lemmas.Bool.Decides.{Decides-and, Decides-eqb}
 use Rattle.std.proofs.lemmas.Slice.Eq.{slice_eq-Decides}
 use Rattle.std.specs.Bool.{Decides}
 use Rattle.std.specs.Cmp.Lexicographic.{pointwise}
-use Rattle.np_table.specs.Types.{PortSpot, Range, Sctp, Tcp, Udp}
+use Rattle.np_table.specs.Prelude.{PortSpot, Range, Sctp, Tcp, Udp, are_same_conns, are_same_range, conns_of}
 use Rattle.np_conns.proofs.ConnLemmas.{spans_of-agrees, spans_of-has_spot}
-use Rattle.np_conns.specs.Conns.{Conns, IsConns, has_spot, is_spot}
-use Rattle.np_conns.specs.Spots.{equal_by_ranges}
-use Rattle.np_table.specs.Right.{are_same_conns, are_same_range, conns_of}
+use Rattle.np_conns.specs.Prelude.{Conns, IsConns, equal_by_ranges, has_spot, is_spot}
 
 are_same_range-Decides : (a b : Range ℕ) → Decides (are_same_range a b) (a ≡ b)
 are_same_range-Decides a b =

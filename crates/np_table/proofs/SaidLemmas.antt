@@ -5,24 +5,18 @@ use Rattle.std.proofs.lemmas.Bool.{and_from, and_parts, and_right, false≢true,
 use Rattle.std.proofs.lemmas.List.{length-map}
 use Rattle.std.proofs.lemmas.List.Elements.{All-cons, All-contains, All-head, All-nil, All-same, All-tail, All-weaker, filter-append}
 use Rattle.std.proofs.lemmas.List.Folds.{list_any-append}
-use Rattle.np_table.specs.Types.{Direction, Egress, EstateLists, Family, Four, Ingress, PortSpot, Proto, Range, Row, RowKey, Sctp, Six, Tcp, Udp}
+use Rattle.np_table.specs.Prelude.{AllowSamePorts, Direction, Egress, EstateLists, Family, Four, Ingress, IsUnmarked, PortSpot, Proto, Range, Row, RowKey, Sctp, Six, Table, Tcp, Udp, address_rows, all_address_rows, all_pair_rows, all_rows, allows_in, are_same_conns, conns_of, is_between, is_none, is_nothing, is_workload, pair_key, pair_rows, row_if, row_of, rows_between, rows_in, rows_of_both, rows_towards, says, speaks_of, table_of, workloads}
 use Rattle.np_base.specs.Ranges.{holds}
 use Rattle.np_conns.proofs.RunLemmas.{runs-by_members}
-use Rattle.np_conns.specs.Conns.{Conns, has_spot, is_spot, ranges_of}
-use Rattle.np_conns.specs.ConnsText.{spans_of}
-use Rattle.np_model.specs.Families.{families_of}
-use Rattle.np_model.specs.Lawful.{IsLawful}
+use Rattle.np_conns.specs.Prelude.{Conns, has_spot, is_spot, ranges_of, spans_of}
+use Rattle.np_model.specs.Prelude.{IsLawful, families_of}
 use Rattle.np_fold.proofs.WorkloadLemmas.{number-in_workloads}
-use Rattle.np_fold.specs.Workloads.{Folding, Workload, folding_of, members_of, number_of}
+use Rattle.np_fold.specs.Prelude.{Folding, Workload, folding_of, members_of, number_of}
 use Rattle.np_table.proofs.RangeSets.{are_same_conns-Decides, conns_of-agrees}
-use Rattle.np_table.specs.Right.{are_same_conns, conns_of}
 use Rattle.np_kinds.proofs.PairLemmas.{between_pods-pair_allows, pair_allows-alone}
 use Rattle.np_table.proofs.RowLemmas.{HasKey, filter-by, filter-flat_map, filter-map_none, pair_rows-key, range-none, range-only}
 use Rattle.np_table.proofs.SetLemmas.{has_spot-conns_of, rows_of_both-same}
-use Rattle.np_table.specs.Rows.{address_rows, all_address_rows, all_pair_rows, all_rows, is_none, is_nothing, pair_key, pair_rows, row_if, row_of, rows_in, rows_of_both, rows_towards, workloads}
-use Rattle.np_table.specs.Said.{AllowSamePorts, IsUnmarked, allows_in, is_between, is_workload, rows_between, says, speaks_of}
-use Rattle.np_table.specs.Table.{Table, table_of}
-use Rattle.np_kinds.specs.Between.{between_pods, pair_allows}
+use Rattle.np_kinds.specs.Prelude.{between_pods, pair_allows}
 
 -- ---- sets without ports
 

@@ -1,14 +1,12 @@
 -- Sets of connections, and the rows of them. For `Rows::next`, `add_row` and 7 more.
 use Rattle.std.proofs.Common.{◌≡◌, ◌≢◌, ◌≤◌, ℕ, List, [], ◌∷◌, ◌++◌, Bool, true, false, not, nat_le, Option, None, Some, Result, Ok, Err, IfOk, OnErr, OnOk, length, get_or, arith, refl, sym, ◌∙◌, subst}
 use Rattle.std.proofs.lemmas.Bool.{and_from, and_parts, both_ways, false_from_ne_true, leb-true, or_left, true≢false}
-use Rattle.np_table.specs.Types.{Family, Four, PortSpot, Proto, Range, RowKey, Sctp, Six, Tcp, Udp}
+use Rattle.np_table.specs.Prelude.{Family, Four, PortSpot, Proto, Range, RowKey, Sctp, Six, Tcp, Udp, are_same_conns, conns_of, is_none, is_nothing, row_if, rows_in, rows_of_both}
 use Rattle.np_base.proofs.Ranges.{is_within-inside}
 use Rattle.np_base.specs.Ranges.{holds, IsAscending}
 use Rattle.np_conns.proofs.RunLemmas.{runs-hold}
-use Rattle.np_conns.specs.Conns.{Conns, IsConns, has_spot, is_spot}
+use Rattle.np_conns.specs.Prelude.{Conns, IsConns, has_spot, is_spot}
 use Rattle.np_table.proofs.RangeSets.{are_same_conns-Decides, conns_of-agrees, conns_of-has_spot}
-use Rattle.np_table.specs.Right.{are_same_conns, conns_of}
-use Rattle.np_table.specs.Rows.{is_none, is_nothing, row_if, rows_in, rows_of_both}
 
 -- ---- a set and what passes
 

@@ -1,25 +1,16 @@
 -- The sides of the pods that stand for workloads, and of those that stand for kinds. For `address_rows_by_kind`, `address_rows` and 8 more.
 use Rattle.std.proofs.Common.{◌≡◌, ◌<◌, ◌≤◌, ◌+◌, ◌-◌, ◌*◌, ◌^◌, ℕ, List, [], Bool, true, false, ◌&&◌, Some, None, length, lit≤, arith, refl, sym, ap, subst, ◌∙◌, if◌then◌else◌, ◌≢◌, Contains}
-use Rattle.np_table.specs.Types.{Direction, Egress, EstateLists, Family, Four, Ingress, PairEnds, PortSpot, Six}
-use Rattle.np_conns.specs.Conns.{Conns, IsConns, has_spot, is_spot}
-use Rattle.np_model.specs.Families.{families_of}
-use Rattle.np_model.specs.Lawful.{IsLawful}
-use Rattle.np_fold.specs.Workloads.{Folding, folding_of, members_of}
-use Rattle.np_rules.specs.model.Ends.{pod}
-use Rattle.np_rules.specs.PodSides.{PodSide, side_of, side_rule_count}
+use Rattle.np_table.specs.Prelude.{AreEnds, Direction, Egress, EstateLists, Family, Four, Ingress, PairEnds, PortSpot, Six, address_rows, conns_of, ends_of, estate_table, most_rules, pair_key, pair_rows, rows_in, rows_of_addresses, rules_of_pair, side_with_address, table_of}
+use Rattle.np_conns.specs.Prelude.{Conns, IsConns, has_spot, is_spot}
+use Rattle.np_model.specs.Prelude.{IsLawful, families_of}
+use Rattle.np_fold.specs.Prelude.{Folding, folding_of, members_of}
+use Rattle.np_rules.specs.Prelude.{PodSide, pod, side_of, side_rule_count}
 use Rattle.np_table.proofs.KindLemmas.{conns_of-nothing, nothing, rows_in-agree, rows_in-nothing, rules-most}
 use Rattle.np_kinds.proofs.PairLemmas.{pair_allows-between, rule_count-destination, between-members}
 use Rattle.np_table.proofs.RangeOneList.{walk-agrees}
 use Rattle.np_table.proofs.RangeSets.{conns_of-agrees}
 use Rattle.np_table.proofs.SetLemmas.{conns_of-set, has_spot-conns_of}
-use Rattle.np_table.specs.PairRules.{AreEnds, rules_of_pair, side_with_address}
-use Rattle.np_kinds.specs.Kinds.{first_side, side_allows_pod, kind_side}
-use Rattle.np_table.specs.steps.PairSides.{ends_of}
-use Rattle.np_table.specs.Right.{conns_of}
-use Rattle.np_table.specs.Rows.{address_rows, pair_key, pair_rows, rows_in, rows_of_addresses}
-use Rattle.np_kinds.specs.Between.{IsWorkload, address_allows, between_pods, is_alone, pair_allows}
-use Rattle.np_table.specs.Table.{estate_table, table_of}
-use Rattle.np_table.specs.ToCome.{most_rules}
+use Rattle.np_kinds.specs.Prelude.{IsWorkload, address_allows, between_pods, first_side, is_alone, kind_side, pair_allows, side_allows_pod}
 use Rattle.std.proofs.lemmas.Bool.{and_right}
 use Rattle.np_kinds.proofs.ReachLemmas.{between-is}
 use Rattle.np_kinds.proofs.SideLemmas.{kind_side-address, kind_side-count, kind_sides-pass}

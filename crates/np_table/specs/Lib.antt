@@ -1,9 +1,10 @@
-pub mod RowCache
 pub mod PairRules
+pub mod Prelude
 pub mod Right
+pub mod RowCache
 pub mod Rows
 pub mod Said
+pub mod steps
 pub mod Table
 pub mod ToCome
 pub mod Types
-pub mod steps

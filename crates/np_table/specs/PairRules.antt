@@ -1,10 +1,8 @@
 -- The sides of the pods that stand for two workloads, and how many rules speak of them.
 use Rattle.std.specs.Prelude.{ℕ, ◌≡◌, ◌+◌, Bool}
 use Rattle.np_table.specs.Types.{Egress, EstateLists, Family, Ingress, PortSpot}
-use Rattle.np_kinds.specs.Between.{with_address}
-use Rattle.np_kinds.specs.Kinds.{first_side}
-use Rattle.np_rules.specs.model.Ends.{pod}
-use Rattle.np_rules.specs.PodSides.{PodSide, near_pod, side_rule_count}
+use Rattle.np_kinds.specs.Prelude.{first_side, with_address}
+use Rattle.np_rules.specs.Prelude.{PodSide, near_pod, pod, side_rule_count}
 
 -- ---- pods
 

@@ -2,8 +2,7 @@
 use Rattle.std.specs.Prelude.{ℕ, zero, suc, ◌≡◌, ◌≢◌, ◌≤◌, ◌+◌, ◌-◌, List, [], ◌∷◌, map, Bool, ◌&&◌, ◌==◌, nat_le, Option, Some, None, if◌then◌else◌}
 use Rattle.std.specs.Cmp.Lexicographic.{pointwise}
 use Rattle.np_table.specs.Types.{Piece, PortSpot, Range, Sctp, Tcp, Udp}
-use Rattle.np_conns.specs.Conns.{Conns}
-use Rattle.np_conns.specs.ConnsText.{spans_of}
+use Rattle.np_conns.specs.Prelude.{Conns, spans_of}
 
 -- ---- ranges
 

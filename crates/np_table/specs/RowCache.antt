@@ -1,9 +1,9 @@
 -- What is kept of the rows from one source: for each kind of destinations what they have besides their ends.
 use Rattle.std.specs.Prelude.{ℕ, ◌≡◌, ◌≢◌, ◌<◌, List, false, Option, Some, option_and_then, is_some, count_by, length, map, slice_get, slice_index}
 use Rattle.np_table.specs.Types.{CachedConns, EstateLists, Row, RowKey}
-use Rattle.np_fold.specs.Workloads.{Folding}
+use Rattle.np_fold.specs.Prelude.{Folding}
 use Rattle.np_table.specs.Rows.{pair_key, pair_rows}
-use Rattle.np_kinds.specs.Between.{is_alone}
+use Rattle.np_kinds.specs.Prelude.{is_alone}
 use Rattle.np_table.specs.Table.{table_of}
 
 -- ---- rows and what is kept of them

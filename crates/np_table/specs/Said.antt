@@ -5,8 +5,8 @@ use Rattle.std.specs.Option.{option_map_or}
 use Rattle.np_table.specs.Types.{AddressSpan, Direction, Egress, Family, Ingress, PortSpot, Row, RowEnd, Span, Work}
 use Rattle.np_addr.specs.declared.address.Family.TheVariants as family
 use Rattle.np_base.specs.Ranges.{is_within}
-use Rattle.np_conns.specs.Conns.{has_spot, is_spot}
-use Rattle.np_model.specs.Families.{same_family}
+use Rattle.np_conns.specs.Prelude.{has_spot, is_spot}
+use Rattle.np_model.specs.Prelude.{same_family}
 use Rattle.np_table.specs.declared.rows.AddressSpan.TheVariants as span
 
 -- whether a mark speaks of a family: a row without a mark speaks of every one

@@ -1,9 +1,9 @@
 -- The table: what passes between workloads, and between workloads and addresses.
 use Rattle.std.specs.Prelude.{ℕ, List, Bool, map}
 use Rattle.np_table.specs.Types.{Direction, EstateLists, Family, PortSpot}
-use Rattle.np_model.specs.Families.{families_of}
-use Rattle.np_fold.specs.Workloads.{Folding, folding_of}
-use Rattle.np_kinds.specs.Between.{address_allows, pair_allows}
+use Rattle.np_model.specs.Prelude.{families_of}
+use Rattle.np_fold.specs.Prelude.{Folding, folding_of}
+use Rattle.np_kinds.specs.Prelude.{address_allows, pair_allows}
 
 -- The names of the workloads in their order, the families of the list, and what is allowed between two workloads in a
 -- family, and between a workload and an address in a direction.

@@ -2,13 +2,12 @@
 use Rattle.std.specs.Prelude.{ℕ, ◌≡◌, ◌<◌, ◌≤◌, ◌^◌, ◌+◌, ◌-◌, ◌*◌, ◌/◌, ◌%◌, List, [], ◌∷◌, ◌==◌, Option, flat_map, length, map, max, nat_lt, if◌then◌else◌}
 use Rattle.std.specs.List.{range_with_len}
 use Rattle.np_table.specs.Types.{CachedConns, Direction, Egress, EstateLists, Ingress, Row}
-use Rattle.np_fold.specs.Workloads.{Folding, folding_of}
-use Rattle.np_rules.specs.model.Places.{rule_count}
-use Rattle.np_rules.specs.model.Verdict.{pod_at}
+use Rattle.np_fold.specs.Prelude.{Folding, folding_of}
+use Rattle.np_rules.specs.Prelude.{pod_at, rule_count}
 use Rattle.np_table.specs.RowCache.{IsCached, cached_count}
 use Rattle.np_table.specs.Rows.{pair_rows, rows_towards}
 use Rattle.np_table.specs.Table.{Table}
-use Rattle.np_kinds.specs.Between.{number_of_workloads, source_pod}
+use Rattle.np_kinds.specs.Prelude.{number_of_workloads, source_pod}
 
 -- what is still to come of the rows of a table, and an upper bound of the rules that are still to be looked at for them
 pub record RowsToCome : Type 0 where

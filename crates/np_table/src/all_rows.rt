@@ -1,10 +1,8 @@
 //! The rows of the table, one after another.
-ghost use Rattle.std.specs.Prelude.{◌≡◌, ◌≤◌, ◌<◌, ◌+◌, ◌*◌, ◌/◌, ◌^◌, ◌∷◌, []};
-ghost use Rattle.std.specs.Prelude.{IfOk, OnErr, OnOk, MatchOption, length, map, reverse};
-ghost use Rattle.np_fold.specs.Workloads.{folding_of};
+ghost use Rattle.std.specs.Prelude.{◌≡◌, ◌≤◌, ◌<◌, ◌+◌, ◌*◌, ◌/◌, ◌^◌, ◌∷◌, [], IfOk, OnErr, OnOk, MatchOption, length, map, reverse};
+ghost use Rattle.np_fold.specs.Prelude.{folding_of};
 ghost use Rattle.np_model.specs.declared.direction.Direction.{Direction};
-ghost use Rattle.np_kinds.specs.Between.{number_of_workloads};
-ghost use Rattle.np_kinds.specs.Kinds.{IsKindReach};
+ghost use Rattle.np_kinds.specs.Prelude.{IsKindReach, number_of_workloads};
 ghost use Rattle.np_table.specs.RowCache.{IsCached};
 ghost use Rattle.np_table.specs.Rows as table;
 ghost use Rattle.np_table.specs.Table.{estate_table};

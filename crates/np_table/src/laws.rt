@@ -3,20 +3,15 @@ ghost use Rattle.std.specs.Prelude.{◌≡◌, ◌≢◌, ◌<◌, ◌≤◌, �
 ghost use Rattle.np_addr.specs.declared.address.Family.{Family};
 ghost use Rattle.np_addr.specs.declared.address.Family.TheVariants.{Four, Six};
 ghost use Rattle.np_classes.specs.Classes.{class_of};
-ghost use Rattle.np_conns.specs.Conns.{is_spot};
+ghost use Rattle.np_conns.specs.Prelude.{is_spot};
 ghost use Rattle.np_conns.specs.declared.port_spot.PortSpot.{PortSpot};
-ghost use Rattle.np_model.specs.Families.{families_of};
-ghost use Rattle.np_model.specs.Lawful.{IsLawful};
+ghost use Rattle.np_model.specs.Prelude.{IsLawful, families_of};
 ghost use Rattle.np_model.specs.declared.lists.EstateLists.{EstateLists};
-ghost use Rattle.np_fold.specs.Workloads.{Folding, folding_of, kinds_alike, members_of, number_of, workload_count};
+ghost use Rattle.np_fold.specs.Prelude.{Folding, folding_of, kinds_alike, members_of, number_of, workload_count};
 ghost use Rattle.np_model.specs.declared.direction.Direction.{Direction};
-ghost use Rattle.np_table.specs.Right.{are_same_conns, conns_of};
-ghost use Rattle.np_rules.specs.model.Ends.{pod};
-ghost use Rattle.np_rules.specs.model.Verdict.{pod_at};
-ghost use Rattle.np_table.specs.Rows.{all_rows, pair_rows};
-ghost use Rattle.np_table.specs.Said.{AllowSamePorts, IsInFamily, IsUnmarked, OneRowSays, allows_in, rows_between};
-ghost use Rattle.np_table.specs.Table.{Table, table_of};
-ghost use Rattle.np_kinds.specs.Between.{address_allows, between_pods, is_alone, pair_allows, with_address};
+ghost use Rattle.np_table.specs.Prelude.{AllowSamePorts, IsInFamily, IsUnmarked, OneRowSays, Table, all_rows, allows_in, are_same_conns, conns_of, pair_rows, rows_between, table_of};
+ghost use Rattle.np_rules.specs.Prelude.{pod, pod_at};
+ghost use Rattle.np_kinds.specs.Prelude.{address_allows, between_pods, is_alone, pair_allows, with_address};
 
 /// Folding loses no verdict: between every two different pods passes what passes between their workloads, and between a
 /// pod and every address what passes between its workload and the address.

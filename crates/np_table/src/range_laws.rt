@@ -1,10 +1,10 @@
 //! What follows from the definitions. Each law is the contract of a call that does nothing.
 ghost use Rattle.std.specs.Prelude.{◌≡◌, ◌≤◌, ℕ, Bool, List, true, count_by};
-ghost use Rattle.np_conns.specs.Conns.{Conns, IsConns, has_spot, is_spot};
+ghost use Rattle.np_conns.specs.Prelude.{Conns, IsConns, has_spot, is_spot};
 ghost use Rattle.np_conns.specs.declared.port_spot.PortSpot.{PortSpot};
-ghost use Rattle.np_pieces.specs.Pieces.{Covers, has_at};
+ghost use Rattle.np_pieces.specs.Prelude.{Covers, has_at};
 ghost use Rattle.np_pieces.specs.declared.piece.Piece.{Piece};
-ghost use Rattle.np_table.specs.Right.{IsRight, Stretch, is_within, stretches_of, walk};
+ghost use Rattle.np_table.specs.Prelude.{IsRight, Stretch, is_within, stretches_of, walk};
 
 /// Exactly one list of ranges is right, and the walk from the least number to the greatest builds it.
 pub fn one_list_is_right()

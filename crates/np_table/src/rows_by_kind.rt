@@ -1,9 +1,8 @@
 //! The rows of two workloads, by their kinds.
 ghost use Rattle.std.specs.Prelude.{◌≡◌, ◌<◌, ◌≤◌, ◌+◌, ◌*◌, false, length, IfOk, OnErr, OnOk};
-ghost use Rattle.np_fold.specs.Workloads.{folding_of};
+ghost use Rattle.np_fold.specs.Prelude.{folding_of};
 ghost use Rattle.np_kinds.specs.Between as pairs;
-ghost use Rattle.np_kinds.specs.Between.{IsWorkload};
-ghost use Rattle.np_kinds.specs.Kinds.{IsKindReach};
+ghost use Rattle.np_kinds.specs.Prelude.{IsKindReach, IsWorkload};
 ghost use Rattle.np_table.specs.RowCache.{IsCached};
 ghost use Rattle.np_table.specs.Rows as spec;
 ghost use Rattle.np_table.specs.Table.{estate_table};

@@ -1,13 +1,10 @@
 //! What passes between a workload and all addresses.
 ghost use Rattle.std.specs.Prelude.{◌≡◌, ◌≤◌, ◌+◌, ◌-◌, ◌^◌, [], ◌∷◌, ◌++◌, map, IfOk, OnOk};
 ghost use Rattle.np_addr.specs.declared.address.Family.TheVariants.{Four, Six};
-ghost use Rattle.np_rules.specs.PodSides.{side_rule_count};
-ghost use Rattle.np_kinds.specs.Kinds.{first_side};
-ghost use Rattle.np_table.specs.PairRules.{side_with_address};
-ghost use Rattle.np_table.specs.Right.{stretches_of, walk};
+ghost use Rattle.np_rules.specs.Prelude.{side_rule_count};
+ghost use Rattle.np_kinds.specs.Prelude.{IsWorkload, first_side};
+ghost use Rattle.np_table.specs.Prelude.{estate_table, side_with_address, stretches_of, walk};
 ghost use Rattle.np_table.specs.Rows as spec;
-ghost use Rattle.np_kinds.specs.Between.{IsWorkload};
-ghost use Rattle.np_table.specs.Table.{estate_table};
 
 use crate::rows::{AddressRow, AddressSpan};
 use np_base::{Cells, NoMemory, Range, Seq, Steps, V4, V6};

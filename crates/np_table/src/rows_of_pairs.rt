@@ -1,11 +1,10 @@
 //! The rows of two workloads.
 ghost use Rattle.std.specs.Prelude.{◌≡◌, ◌≤◌, ◌+◌, ◌*◌, ◌++◌, None, IfOk, OnOk};
-ghost use Rattle.np_rules.specs.PodSides.{side_rule_count};
+ghost use Rattle.np_rules.specs.Prelude.{side_rule_count};
 ghost use Rattle.np_table.specs.PairRules as rules;
-ghost use Rattle.np_table.specs.Right.{conns_of};
+ghost use Rattle.np_table.specs.Prelude.{conns_of, estate_table};
 ghost use Rattle.np_table.specs.Rows as spec;
-ghost use Rattle.np_kinds.specs.Between.{IsWorkload, between_pods};
-ghost use Rattle.np_table.specs.Table.{estate_table};
+ghost use Rattle.np_kinds.specs.Prelude.{IsWorkload, between_pods};
 
 use crate::pair_sets::{rules_of_pair, set_between};
 use crate::rows::{Row, RowEnd, RowKey};

@@ -1,6 +1,6 @@
 //! Lists that are read, folded and asked.
 ghost use Rattle.std.specs.Prelude.{◌≡◌, ◌<◌};
-ghost use Rattle.np_model.specs.Lawful.{IsLawful};
+ghost use Rattle.np_model.specs.Prelude.{IsLawful};
 
 use crate::explained::explained_text;
 use crate::exposed::{exposed_text, weight_text};

@@ -1,7 +1,6 @@
 //! Statements about a cluster, and how they are broken.
 ghost use Rattle.std.specs.Prelude.{All};
-ghost use Rattle.np_statements.specs.AskedLines.{IsWellLine};
-ghost use Rattle.np_statements.specs.BrokenLines.{HasPlaces};
+ghost use Rattle.np_statements.specs.Prelude.{HasPlaces, IsWellLine};
 
 use crate::asked::{Question, expect_answer};
 use np_base::{NoMemory, Seq};

@@ -1,6 +1,6 @@
 //! The rules that decide nothing.
 ghost use Rattle.std.specs.Prelude.{All};
-ghost use Rattle.np_unused.specs.Rules.{IsRuleOf};
+ghost use Rattle.np_unused.specs.Prelude.{IsRuleOf};
 
 use crate::asked::{Question, expect_answer};
 use np_base::{NoMemory, Steps};

@@ -1,11 +1,11 @@
 -- Where no policy is listed no rule is looked at. For `counted_rows`.
 use Rattle.std.proofs.Common.{◌≡◌, ℕ, ◌+◌, ◌*◌, ◌≤◌, length, List, [], ◌∷◌, arith, map, refl}
 use Rattle.np_model.specs.declared.lists.EstateLists.{EstateLists}
-use Rattle.np_fold.specs.Workloads.{Folding, folding_of}
+use Rattle.np_fold.specs.Prelude.{Folding, folding_of}
 use Rattle.np_test_fold.specs.Rules.{HasNoPolicies, due_for_all}
 use Rattle.np_model.specs.declared.direction.Direction.{Direction}
 use Rattle.np_model.specs.declared.direction.Direction.TheVariants.{Egress, Ingress}
-use Rattle.np_table.specs.ToCome.{greatest, most_rules, rules_of}
+use Rattle.np_table.specs.Prelude.{greatest, most_rules, rules_of}
 
 rules_of-none : (lists : EstateLists) (folding : Folding) (direction : Direction) (workload : ℕ) → HasNoPolicies lists → rules_of lists folding direction workload ≡ 0
 rules_of-none lists folding direction workload none = rw (none.admin, none.net, none.baseline)

@@ -1,8 +1,8 @@
 -- How many rules are looked at for the rows of a table.
 use Rattle.std.specs.Prelude.{◌≡◌, ℕ, ◌+◌, ◌*◌, [], None, length}
 use Rattle.np_model.specs.declared.lists.EstateLists.{EstateLists}
-use Rattle.np_fold.specs.Workloads.{folding_of}
-use Rattle.np_table.specs.ToCome.{most_rules}
+use Rattle.np_fold.specs.Prelude.{folding_of}
+use Rattle.np_table.specs.Prelude.{most_rules}
 
 -- no policy of any sort is listed
 pub record HasNoPolicies (lists : EstateLists) : Type 0 where

@@ -1,6 +1,6 @@
 //! All that is asked of the list.
 ghost use Rattle.std.specs.Prelude.{◌≡◌, ◌<◌};
-ghost use Rattle.np_kinds.specs.Between.{number_of_workloads};
+ghost use Rattle.np_kinds.specs.Prelude.{number_of_workloads};
 
 use crate::all_rows::counted_rows;
 use crate::list::folded_list;

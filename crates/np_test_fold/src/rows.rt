@@ -1,6 +1,6 @@
 //! What passes between the workloads of the list, and between a workload and all addresses.
 ghost use Rattle.std.specs.Prelude.{◌≡◌};
-ghost use Rattle.np_kinds.specs.Between.{number_of_workloads};
+ghost use Rattle.np_kinds.specs.Prelude.{number_of_workloads};
 
 use np_addr::Family;
 use np_base::{NoMemory, Steps};

@@ -1,6 +1,6 @@
 //! All that is asked of the list: what arrives at its second pod.
 ghost use Rattle.std.specs.Prelude.{◌≡◌, ◌<◌, length};
-ghost use Rattle.np_model.specs.Lawful.{IsFew};
+ghost use Rattle.np_model.specs.Prelude.{IsFew};
 
 use crate::addresses::{expect_at_addresses, expect_by_layer_of_addresses};
 use crate::layers::{expect_from_address, expect_from_pod};

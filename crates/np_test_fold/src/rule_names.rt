@@ -1,5 +1,5 @@
 //! The rules behind the places of a layer, by name.
-ghost use Rattle.np_model.specs.Lawful.{IsFew};
+ghost use Rattle.np_model.specs.Prelude.{IsFew};
 
 use np_rules::{LayerRules, PodRules, RuleId};
 use std::alloc::Global;

@@ -1,5 +1,5 @@
 //! The list that is asked.
-ghost use Rattle.np_model.specs.Lawful.{IsLawful};
+ghost use Rattle.np_model.specs.Prelude.{IsLawful};
 
 use np_model::Estate;
 use np_reading::read_estate;

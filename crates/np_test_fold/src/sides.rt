@@ -1,6 +1,6 @@
 //! The rules of the pods that stand for the workloads of the list, and what passes by them.
 ghost use Rattle.std.specs.Prelude.{◌≡◌};
-ghost use Rattle.np_kinds.specs.Between.{number_of_workloads};
+ghost use Rattle.np_kinds.specs.Prelude.{number_of_workloads};
 
 use crate::answers::expect_right;
 use crate::rows::{PAIR, are_conns, are_ranges_right};

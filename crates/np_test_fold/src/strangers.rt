@@ -1,6 +1,6 @@
 //! What arrives from a pod that nobody has written yet, by the rules of a side and by those that are kept for such pods.
 ghost use Rattle.std.specs.Prelude.{◌≡◌, length, IfOk};
-ghost use Rattle.np_rules.specs.StrangerRules.{ArePermitted};
+ghost use Rattle.np_rules.specs.Prelude.{ArePermitted};
 
 use crate::layers::expect_just;
 use np_base::{NoMemory, Steps};

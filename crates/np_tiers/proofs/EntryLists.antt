@@ -3,9 +3,7 @@ use Rattle.std.proofs.Common.{◌≡◌, ◌≢◌, Bool, true, List, ◌++◌, 
 use Rattle.std.proofs.lemmas.List.{map-append}
 use Rattle.std.proofs.lemmas.List.Elements.{All-append, All-weaker, filter-append}
 use Rattle.np_base.proofs.Lists.{AllPairs-append}
-use Rattle.np_tiers.specs.Entries.{mark_if, AreEntries, IsCarving}
-use Rattle.np_tiers.specs.Marks.{marks_at}
-use Rattle.np_tiers.specs.Types.{Mark, Marked}
+use Rattle.np_tiers.specs.Prelude.{AreEntries, IsCarving, Mark, Marked, mark_if, marks_at}
 
 pub marks_at-append : {S : Type 0} (at : S → Bool) (xs ys : List (Marked S)) → marks_at at (xs ++ ys) ≡ marks_at at xs ++ marks_at at ys
 marks_at-append {S} at xs ys =

@@ -1,9 +1,7 @@
 -- What the marks at each spot say of each entry. For `carve`.
 use Rattle.std.proofs.Common.{◌≡◌, ◌≢◌, ◌⊎◌, ◌↔◌, ℕ, zero, suc, ◌<◌, Bool, true, false, IsTrue, List, [], ◌∷◌, ◌++◌, length, get_or, AllPairs, refl, sym, subst, ◌∙◌, inl, inr, arith}
 use Rattle.std.proofs.lemmas.Bool.{cases_order}
-use Rattle.np_tiers.specs.Entries.{mark_if}
-use Rattle.np_tiers.specs.Marks.{marks_at}
-use Rattle.np_tiers.specs.Types.{Mark, Marked}
+use Rattle.np_tiers.specs.Prelude.{Mark, Marked, mark_if, marks_at}
 
 -- the mark is among these
 abbrev IsIn : Mark → List Mark → Type 0

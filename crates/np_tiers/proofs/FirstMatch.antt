@@ -3,8 +3,7 @@
 use Rattle.std.proofs.Common.{◌≡◌, ℕ, ◌+◌, ◌<◌, ◌≤◌, Bool, true, false, not, ◌&&◌, if◌then◌else◌, Option, Some, None, List, [], ◌∷◌, ◌++◌, length, get_or, drop, refl, sym, ap, ◌∙◌}
 use Rattle.std.proofs.lemmas.List.{drop_all}
 use Rattle.np_base.proofs.Lists.{drop-item}
-use Rattle.np_tiers.specs.Entries.{mark_if, IsCarving}
-use Rattle.np_tiers.specs.Types.{Mark, Marked}
+use Rattle.np_tiers.specs.Prelude.{IsCarving, Mark, Marked, mark_if}
 use Rattle.np_tiers.proofs.EntryLists.{IsBegun, IsBegun-more, IsBegun-end}
 use Rattle.np_tiers.proofs.Places.{IsBelow, IsBelow-more, IsBelow-next, apart_at, apart_at_end}
 

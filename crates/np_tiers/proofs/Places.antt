@@ -1,6 +1,6 @@
 -- The places that marks name. For `carve_base` and `carve_net`.
 use Rattle.std.proofs.Common.{◌≡◌, ◌≢◌, ℕ, ◌+◌, ◌<◌, Option, Some, None, ap, subst, ◌∙◌, arith}
-use Rattle.np_tiers.specs.Types.{Admin, Base, Free, Isolated, Mark, Net}
+use Rattle.np_tiers.specs.Prelude.{Admin, Base, Free, Isolated, Mark, Net}
 
 -- the place of the part below the admin tier that decides, if one does
 abbrev pub lower_place : Mark → Option ℕ

@@ -3,8 +3,7 @@ use Rattle.std.proofs.Common.{◌≡◌, Bool, Option, is_some, List, ◌++◌, 
 use Rattle.std.proofs.lemmas.List.Folds.{find-append}
 use Rattle.std.specs.Option.{option_map, option_or}
 use Rattle.np_base.proofs.Options.{option_map-or}
-use Rattle.np_tiers.specs.Runs.{first_action, first_allows, IsRun}
-use Rattle.np_tiers.specs.Types.{Action, Run}
+use Rattle.np_tiers.specs.Prelude.{Action, IsRun, Run, first_action, first_allows}
 
 pub run_of_halves : {S P Spot : Type 0} (has : S → Spot → Bool) (set_of : P → S) (action_of : P → Action) (parts front back : List P) (run : Run S) → front ++ back ≡ parts →
     IsRun has (λ spot. option_or (first_action set_of action_of (λ set. has set spot) front) (first_action set_of action_of (λ set. has set spot) back)) run →

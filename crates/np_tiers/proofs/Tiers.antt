@@ -1,9 +1,7 @@
 -- How each tier names what decides a spot. For `carve_admin`, `carve_base` and `carve_net`.
 use Rattle.std.proofs.Common.{ℕ, ◌+◌, Option, Some, find}
 use Rattle.std.specs.List.{position_from, enumerate_from}
-use Rattle.np_tiers.specs.Entries.{admin_place}
-use Rattle.np_tiers.specs.Marks.{net_mark, base_mark, lower_mark, action_mark, admin_mark}
-use Rattle.np_tiers.specs.Types.{AdminPart, BasePart, Layer}
+use Rattle.np_tiers.specs.Prelude.{AdminPart, BasePart, Layer, action_mark, admin_mark, admin_place, base_mark, lower_mark, net_mark}
 use Rattle.np_tiers.proofs.Choice.{at_choice}
 use Rattle.np_tiers.proofs.FirstMatch.{Tier}
 use Rattle.np_tiers.proofs.Places.{lower_place}

@@ -4,9 +4,7 @@ use Rattle.std.proofs.lemmas.Bool.{cases_Bool}
 use Rattle.std.specs.List.{list_any, slice_get, position_from}
 use Rattle.std.specs.Option.{option_map_or}
 use Rattle.std.proofs.Math.Bool.{or-false}
-use Rattle.np_tiers.specs.Walk.{action_allows, admin_allows, base_allows, lower_allows, walk_allows}
-use Rattle.np_tiers.specs.Marks.{base_mark, net_mark, lower_mark, action_mark, mark_of, mark_allows, marks_at}
-use Rattle.np_tiers.specs.Types.{Action, AdminPart, Allow, Deny, Layer, Marked, Pass}
+use Rattle.np_tiers.specs.Prelude.{Action, AdminPart, Allow, Deny, Layer, Marked, Pass, action_allows, action_mark, admin_allows, base_allows, base_mark, lower_allows, lower_mark, mark_allows, mark_of, marks_at, net_mark, walk_allows}
 use Rattle.np_tiers.proofs.Choice.{at_choice}
 use Rattle.np_tiers.proofs.FirstMatch.{Tier}
 use Rattle.np_tiers.proofs.Tiers.{net_tier, base_tier, admin_tier}

@@ -1,8 +1,7 @@
 //! What decides each spot of a layer, as one set for each mark.
 ghost use Rattle.std.specs.Prelude.{◌≡◌, ◌≢◌, ◌↔◌, ◌∷◌, [], true, IsTrue, ⊤, IfOk, Some, All, AllPairs};
 ghost use Rattle.std.specs.List.{position_from};
-ghost use Rattle.np_tiers.specs.Entries.{admin_place, IsCarving};
-ghost use Rattle.np_tiers.specs.Marks.{base_mark, net_mark, lower_mark, action_mark, mark_of, marks_at};
+ghost use Rattle.np_tiers.specs.Prelude.{IsCarving, action_mark, admin_place, base_mark, lower_mark, mark_of, marks_at, net_mark};
 
 use crate::layer::{Action, AdminPart, BasePart, Layer};
 use crate::mark::{Mark, Marked};

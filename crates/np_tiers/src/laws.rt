@@ -1,8 +1,7 @@
 //! Laws of the walk of a layer.
 ghost use Rattle.std.specs.Prelude.{◌≡◌, ◌&&◌, Bool, List, [], ◌∷◌};
 ghost use Rattle.std.specs.List.{list_any};
-ghost use Rattle.np_tiers.specs.Walk.{walk_allows};
-ghost use Rattle.np_tiers.specs.Marks.{mark_of, mark_allows, marks_at};
+ghost use Rattle.np_tiers.specs.Prelude.{mark_allows, mark_of, marks_at, walk_allows};
 ghost use Rattle.np_tiers.specs.declared.layer.Layer.{Layer};
 ghost use Rattle.np_tiers.specs.declared.mark.Marked.{Marked};
 

@@ -1,7 +1,6 @@
 //! The set of the spots that a layer allows.
 ghost use Rattle.std.specs.Prelude.{◌≡◌, true, if◌then◌else◌, IfOk};
-ghost use Rattle.np_tiers.specs.Runs.{first_action, first_allows};
-ghost use Rattle.np_tiers.specs.Walk.{action_allows, lower_allows, walk_allows};
+ghost use Rattle.np_tiers.specs.Prelude.{action_allows, first_action, first_allows, lower_allows, walk_allows};
 
 use crate::layer::{Action, Layer};
 use crate::run::run_of;

@@ -2,18 +2,13 @@
 use Rattle.std.proofs.Common.{◌≡◌, ℕ, Bool, true, false, ◌&&◌, ◌==◌, Some, refl, sym, ap, ◌∙◌, subst}
 use Rattle.std.specs.List.{Contains}
 use Rattle.std.proofs.lemmas.Bool.{and_parts, eqb-true, false≢true}
-use Rattle.np_unused.specs.Types.{Admin, At, Base, Direction, Egress, End, EstateLists, Family, Ingress, Net, Pod, PortSpot, RuleRef, Tier}
-use Rattle.np_model.specs.Lawful.{IsLawful}
-use Rattle.np_explain.specs.Sides.{decider_between, packet_between}
+use Rattle.np_unused.specs.Prelude.{Admin, At, Base, Direction, Egress, End, EstateLists, Family, Ingress, IsListedPacket, Net, Pod, PortSpot, RuleRef, Tier, goes, ref_of, rule_in, rule_name, same_direction, same_ref, same_tier, unused_of, without}
+use Rattle.np_model.specs.Prelude.{IsLawful}
+use Rattle.np_explain.specs.Prelude.{decider_between, packet_between}
 use Rattle.np_unused.proofs.ChangeLemmas.{Stays, side_same}
 use Rattle.np_unused.proofs.LawLemmas.{stands_by_name, unused_is}
 use Rattle.np_unused.proofs.PacketLemmas.{any_gives, is_used_by}
-use Rattle.np_unused.specs.Rules.{rule_name}
-use Rattle.np_unused.specs.Used.{IsListedPacket, rule_in, unused_of}
-use Rattle.np_unused.specs.Without.{goes, same_direction, same_ref, same_tier, without}
-use Rattle.np_unused.specs.steps.Search.{ref_of}
-use Rattle.np_rules.specs.model.Ends.{contact_of}
-use Rattle.np_rules.specs.model.Verdict.{allows, end_allows, end_of, pod_at}
+use Rattle.np_rules.specs.Prelude.{allows, contact_of, end_allows, end_of, pod_at}
 
 -- ---- one rule
 

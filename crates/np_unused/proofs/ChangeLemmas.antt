@@ -3,29 +3,17 @@ use Rattle.std.proofs.Common.{◌≡◌, ℕ, ◌<◌, List, [], Bool, true, fal
 use Rattle.std.specs.List.{enumerate_from, list_any}
 use Rattle.std.specs.Option.{option_map, option_map_or}
 use Rattle.np_tiers.proofs.Verdicts.{whole_stands}
-use Rattle.np_model.specs.Lawful.{IsLawful}
-use Rattle.np_unused.specs.Types.{AdminPolicy, AdminRule, BasePolicy, Decider, Direction, EstateLists, NetPolicy, NetRule, RuleName, RuleRef, Tier}
+use Rattle.np_model.specs.Prelude.{IsLawful}
+use Rattle.np_unused.specs.Prelude.{AdminPolicy, AdminRule, BasePolicy, Decider, Direction, EstateLists, NetPolicy, NetRule, RuleName, RuleRef, Tier, admin_count, admin_rule_in, admin_without, base_rule_in, base_without, goes, net_count, net_rule_in, net_without, ref_of, rule_count_at, rule_in, rule_name, without}
 use Rattle.np_explain.proofs.RuleLemmas.{net_decider_is_first}
 use Rattle.np_unused.proofs.StayLemmas.{any_found, any_map, find_map, first_stays, found_is}
-use Rattle.np_unused.proofs.WithoutLemmas.{IsAdminAt, IsBaseAt, IsNetAt, admin_are, admin_from, admin_left, admin_placed, admin_stays, ascending_left, base_are, base_from, base_left, base_placed}
-use Rattle.np_unused.proofs.WithoutLemmas.{base_stays, isolated_left, net_are, net_from, net_left, net_placed, net_stays, spaced}
-use Rattle.np_unused.specs.Rules.{admin_count, net_count, rule_count_at, rule_name}
-use Rattle.np_unused.specs.Used.{admin_rule_in, base_rule_in, net_rule_in, rule_in}
-use Rattle.np_unused.specs.Without.{admin_without, base_without, goes, net_without, without}
+use Rattle.np_unused.proofs.WithoutLemmas.{IsAdminAt, IsBaseAt, IsNetAt, admin_are, admin_from, admin_left, admin_placed, admin_stays, ascending_left, base_are, base_from, base_left, base_placed, base_stays, isolated_left, net_are, net_from, net_left, net_placed, net_stays, spaced}
 use Rattle.np_unused.specs.declared.rule_ref.Tier.TheVariants as tier
-use Rattle.np_unused.specs.steps.Search.{ref_of}
 use Rattle.np_model.specs.declared.admin_policy.Action.{Action}
 use Rattle.np_model.specs.declared.admin_policy.Action.TheVariants.{Allow, Deny, Pass}
 use Rattle.np_rules.proofs.AdminTierLemmas.{decider_is_first}
 use Rattle.np_rules.proofs.PairwiseLemmas.{map-map}
-use Rattle.np_rules.specs.model.AdminTier.{admin_decider}
-use Rattle.np_rules.specs.model.BaseTier.{base_decider}
-use Rattle.np_rules.specs.Deciders.{action_decides, admin_decides, admin_rule_name, base_decides, decider, isolating_names, lower_decider, net_decider, net_decides, net_policy_name, net_rule_name}
-use Rattle.np_rules.specs.model.Ends.{Contact, PodEnd, pod}
-use Rattle.np_rules.specs.model.NetTier.{is_isolated, permits, placed_net_matches}
-use Rattle.np_rules.specs.model.Places.{PlacedAdminRule, PlacedBaseRule, PlacedNetRule, admin_places, base_places, net_places}
-use Rattle.np_rules.specs.model.Rules.{admin_rule_matches, net_rule_matches}
-use Rattle.np_rules.specs.model.Sides.{action_says, admin_says, base_says, is_allow, lower_allows, side_allows}
+use Rattle.np_rules.specs.Prelude.{Contact, PlacedAdminRule, PlacedBaseRule, PlacedNetRule, PodEnd, action_decides, action_says, admin_decider, admin_decides, admin_places, admin_rule_matches, admin_rule_name, admin_says, base_decider, base_decides, base_places, base_says, decider, is_allow, is_isolated, isolating_names, lower_allows, lower_decider, net_decider, net_decides, net_places, net_policy_name, net_rule_matches, net_rule_name, permits, placed_net_matches, pod, side_allows}
 
 -- ---- what rules say
 

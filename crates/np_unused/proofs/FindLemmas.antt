@@ -5,26 +5,17 @@ use Rattle.std.specs.List.{Contains}
 use Rattle.std.proofs.lemmas.Bool.{and_from, eqb-false, false≢true, ne_eqb}
 use Rattle.std.proofs.lemmas.Bool.Decides.{eqb_tells, nat_tests}
 use Rattle.std.proofs.lemmas.Option.{same_Some}
-use Rattle.np_addr.specs.Addresses.{IsAddress, family_of}
+use Rattle.np_addr.specs.Prelude.{IsAddress, family_of}
 use Rattle.np_addr.specs.declared.address.Address.{Address}
-use Rattle.np_unused.specs.Types.{At, Direction, End, EstateLists, Family, Four, KindPod, Pod, PortSpot, Six, Tier, UsedRules}
+use Rattle.np_unused.specs.Prelude.{AllAreUsed, AreKindPods, AreUsed, At, Direction, End, EstateLists, Family, Finds, Four, IsListed, IsSound, KindPod, Knows, KnowsPods, KnowsSide, KnowsSides, Pod, PodsAreUsed, PortSpot, Six, Tier, UsedRules, families_between, is_asked, is_known, is_used, pod_kind, ref_of, rule_count_at, stands_in}
 use Rattle.np_base.specs.declared.beside.Which.TheVariants.{First, Second}
-use Rattle.np_conns.specs.Conns.{is_spot}
-use Rattle.np_model.specs.Families.{families_of}
-use Rattle.np_model.specs.Lawful.{IsLawful}
-use Rattle.np_explain.specs.Sides.{are_one_pod, decider_near}
+use Rattle.np_conns.specs.Prelude.{is_spot}
+use Rattle.np_model.specs.Prelude.{IsLawful, families_of}
+use Rattle.np_explain.specs.Prelude.{are_one_pod, decider_near}
 use Rattle.np_unused.proofs.KindPodLemmas.{StandsFor, kind_pod, own_kind}
 use Rattle.np_unused.proofs.PacketLemmas.{near_used, used_near}
-use Rattle.np_unused.specs.Rules.{rule_count_at}
-use Rattle.np_unused.specs.Used.{IsListed, families_between, is_used, stands_in}
-use Rattle.np_unused.specs.steps.Kinds.{AreKindPods, is_asked, pod_kind}
-use Rattle.np_unused.specs.steps.Known.{is_known}
-use Rattle.np_unused.specs.steps.Search.{AllAreUsed, AreUsed, Finds, IsSound, Knows, KnowsPods, KnowsSide, KnowsSides, PodsAreUsed, ref_of}
 use Rattle.np_rules.proofs.AddressLemmas.{place_parts}
-use Rattle.np_rules.specs.model.Ends.{address, pod}
-use Rattle.np_rules.specs.EveryAddress.{AddressSpot, address_of, is_address_spot, spot_of}
-use Rattle.np_rules.specs.PodSides.{side_of, with_addresses}
-use Rattle.np_rules.specs.model.Verdict.{pod_at}
+use Rattle.np_rules.specs.Prelude.{AddressSpot, address, address_of, is_address_spot, pod, pod_at, side_of, spot_of, with_addresses}
 use Rattle.np_sets.specs.Space.{is_between}
 
 -- ---- what is asked for is listed

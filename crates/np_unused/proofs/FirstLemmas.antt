@@ -1,11 +1,9 @@
 -- The first rules of lists, and of their halves. For `handed_down`, `parts_with_spots` and `rules_with_spots`.
-use Rattle.std.proofs.Common.{◌≡◌, ◌⊎◌, ℕ, zero, suc, ◌+◌, ◌<◌, List, [], ◌∷◌, ◌++◌, Bool, true, false, ◌&&◌, ◌||◌, not, Option, Some, None, is_some, length, get_or, take, refl, sym, ap, ◌∙◌, inl}
-use Rattle.std.proofs.Common.{inr, if◌then◌else◌, add-one, arith, find}
+use Rattle.std.proofs.Common.{◌≡◌, ◌⊎◌, ℕ, zero, suc, ◌+◌, ◌<◌, List, [], ◌∷◌, ◌++◌, Bool, true, false, ◌&&◌, ◌||◌, not, Option, Some, None, is_some, length, get_or, take, refl, sym, ap, ◌∙◌, inl, inr, if◌then◌else◌, add-one, arith, find}
 use Rattle.std.specs.List.{list_any, position_from, slice_get}
 use Rattle.std.specs.Option.{option_and_then, option_map, option_map_or, option_or}
-use Rattle.np_unused.specs.Types.{Action, AdminPart, Allow, Deny, Pass, RuleId, RuleSpots}
-use Rattle.np_unused.specs.steps.Firsts.{first_at, first_rule, hands_down, is_pass}
-use Rattle.np_tiers.specs.Walk.{action_allows, admin_allows}
+use Rattle.np_unused.specs.Prelude.{Action, AdminPart, Allow, Deny, Pass, RuleId, RuleSpots, first_at, first_rule, hands_down, is_pass}
+use Rattle.np_tiers.specs.Prelude.{action_allows, admin_allows}
 
 -- ---- two lists
 

@@ -5,7 +5,7 @@ use Rattle.std.specs.Option.{option_map_or}
 use Rattle.std.specs.declared.alloc.Global.{Global}
 use Rattle.std.proofs.lemmas.Bool.Decides.{eqb_tells}
 use Rattle.std.proofs.lemmas.Option.{slice_get_read}
-use Rattle.np_unused.specs.steps.Known.{flag_in, flag_of}
+use Rattle.np_unused.specs.Prelude.{flag_in, flag_of}
 
 -- a flag that is not set changes nothing
 pub flag_of-push : (row : List Bool) (n : ℕ) → flag_of (row ++ false ∷ []) n ≡ flag_of row n

@@ -2,23 +2,19 @@
 use Rattle.std.proofs.Common.{◌≡◌, ℕ, ◌<◌, List, false, length, get_or, slice_index, slice_get, Some, refl, sym, ap, ◌∙◌, subst, arith, inr}
 use Rattle.std.proofs.lemmas.List.FromFn.{get_or-map-range_with_len}
 use Rattle.std.proofs.lemmas.Option.{get_or_from_slice_get, slice_get-get_or, slice_get_within}
-use Rattle.np_unused.specs.Types.{Direction, Egress, EstateLists, Family, Ingress, KindPod, PortSpot}
+use Rattle.np_unused.specs.Prelude.{AreKindPods, Direction, Egress, EstateLists, Family, Ingress, KindPod, PortSpot, pod_kind}
 use Rattle.np_classes.proofs.Relations.{class_of_first, first_of, same_class}
 use Rattle.np_classes.specs.Classes.{class_of}
-use Rattle.np_model.specs.Lawful.{IsLawful}
+use Rattle.np_model.specs.Prelude.{IsLawful}
 use Rattle.np_fold.proofs.AlikeLemmas.{kinds-are}
 use Rattle.np_fold.proofs.WorkloadLemmas.{number-in_workloads, one_workload}
-use Rattle.np_fold.specs.Workloads.{folding_of, kinds_alike, number_of, workload_count}
-use Rattle.np_unused.specs.steps.Kinds.{AreKindPods, pod_kind}
-use Rattle.np_rules.specs.Deciders.{decider}
-use Rattle.np_rules.specs.model.Ends.{End, contact, pod}
-use Rattle.np_rules.specs.model.Verdict.{pod_at}
+use Rattle.np_fold.specs.Prelude.{folding_of, kinds_alike, number_of, workload_count}
+use Rattle.np_rules.specs.Prelude.{End, contact, decider, pod, pod_at}
 use Rattle.np_kinds.proofs.KindNumbers.{first_pod-there, firsts-workloads, kinds-by}
 use Rattle.np_kinds.proofs.KindVerdicts.{SameKindEnd-ends, got-same, sent-same}
 use Rattle.np_kinds.proofs.MemberLemmas.{member-number, members-some, source-member}
 use Rattle.np_kinds.proofs.PairLemmas.{one_kind-by, one_kind-sources, pod_there, source-within}
-use Rattle.np_kinds.specs.Ends.{AreOneKind}
-use Rattle.np_kinds.specs.Between.{source_pod}
+use Rattle.np_kinds.specs.Prelude.{AreOneKind, source_pod}
 
 -- ---- pods that may stand for one another
 

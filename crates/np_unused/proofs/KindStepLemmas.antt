@@ -5,11 +5,10 @@ use Rattle.std.proofs.lemmas.List.{length-append, length-set}
 use Rattle.std.proofs.lemmas.List.FromFn.{length-map-range_with_len}
 use Rattle.std.proofs.lemmas.Option.{none-some, same_Some, slice_get_past, slice_get_within}
 use Rattle.np_base.proofs.Lists.{slice_get-push_other, slice_get-push_same}
-use Rattle.np_unused.specs.Types.{EstateLists, KindPod}
-use Rattle.np_fold.specs.Workloads.{folding_of, number_of}
+use Rattle.np_unused.specs.Prelude.{AreKindPods, AreKindPodsOf, EstateLists, IsKindPodOf, KindPod, pod_kind}
+use Rattle.np_fold.specs.Prelude.{folding_of, number_of}
 use Rattle.np_unused.proofs.FlagLemmas.{get-set_other, get-set_same}
 use Rattle.np_unused.proofs.KindPodLemmas.{kind_within, number_is, number_within}
-use Rattle.np_unused.specs.steps.Kinds.{AreKindPods, AreKindPodsOf, IsKindPodOf, pod_kind}
 use Rattle.np_kinds.proofs.KindNumbers.{firsts-workloads, kind-there}
 
 -- ---- numbers and kinds of pods

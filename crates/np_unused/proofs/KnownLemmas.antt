@@ -5,12 +5,9 @@ use Rattle.std.specs.Option.{option_and_then, option_map_or}
 use Rattle.std.proofs.lemmas.Bool.{false≢true}
 use Rattle.np_unused.proofs.FirstLemmas.{first_at-position}
 use Rattle.np_unused.proofs.NoteLemmas.{notes_as, notes_none}
-use Rattle.np_unused.specs.Types.{Action, AdminPart, Allow, Deny, Flags, Layer, LayerRules, Mark, Pass, RuleId, Tier, UsedRules}
+use Rattle.np_unused.specs.Prelude.{Action, AdminPart, Allow, Deny, Flags, Layer, LayerRules, Mark, Notes, Pass, RuleId, Tier, UsedRules, base_place, first_at, flags_of, hands_down, is_met, is_pass, marks, names, net_place}
 use Rattle.np_unused.specs.declared.rule_ref.Tier.TheVariants as tier
-use Rattle.np_unused.specs.steps.Firsts.{Notes, first_at, hands_down, is_pass, names}
-use Rattle.np_unused.specs.steps.Known.{base_place, flags_of, is_met, marks, net_place}
-use Rattle.np_tiers.specs.Entries.{admin_place}
-use Rattle.np_tiers.specs.Marks.{admin_mark, base_mark, lower_mark, mark_of, net_mark}
+use Rattle.np_tiers.specs.Prelude.{admin_mark, admin_place, base_mark, lower_mark, mark_of, net_mark}
 use Rattle.np_tiers.specs.declared.mark.Mark.TheVariants.{Admin}
 
 -- ---- the places of a mark

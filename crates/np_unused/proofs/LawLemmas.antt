@@ -4,14 +4,11 @@ use Rattle.std.specs.List.{Contains}
 use Rattle.std.specs.Option.{option_map_or}
 use Rattle.std.proofs.lemmas.Bool.{false≢true, not-true}
 use Rattle.std.proofs.lemmas.List.Elements.{All-cons, All-contains, All-head, All-nil, All-tail, Contains-append_right}
-use Rattle.np_unused.specs.Types.{End, EstateLists, Family, PortSpot, RuleName, RuleRef}
+use Rattle.np_unused.specs.Prelude.{End, EstateLists, Family, IsListedPacket, IsRuleOf, PortSpot, RuleName, RuleRef, StandsIn, all_rules, is_used, rule_in, rule_name, unused_of}
 use Rattle.np_explain.proofs.SameDecider.{same_rule-Decides}
-use Rattle.np_explain.specs.RightParts.{same_rule}
-use Rattle.np_explain.specs.Sides.{decider_between}
+use Rattle.np_explain.specs.Prelude.{decider_between, same_rule}
 use Rattle.np_unused.proofs.PacketLemmas.{is_used_by, used_by}
 use Rattle.np_unused.proofs.RuleListLemmas.{rule_is_listed, rules_are_rules}
-use Rattle.np_unused.specs.Rules.{IsRuleOf, all_rules, rule_name}
-use Rattle.np_unused.specs.Used.{IsListedPacket, StandsIn, is_used, rule_in, unused_of}
 
 -- ---- lists that are filtered
 

@@ -7,23 +7,13 @@ use Rattle.std.specs.Str.{bytes_eq}
 use Rattle.std.proofs.lemmas.Bool.{and_parts, eqb-true, false≢true}
 use Rattle.std.proofs.lemmas.Option.{slice_get-map}
 use Rattle.std.proofs.lemmas.Slice.Eq.{bytes_eq-Decides}
-use Rattle.np_model.specs.Lawful.{IsLawful}
-use Rattle.np_unused.specs.Types.{AdminPolicy, Decider, Direction, EstateLists, LayerRules, Mark, NetPolicy, RuleId, RuleName, Tier}
+use Rattle.np_model.specs.Prelude.{IsLawful}
+use Rattle.np_unused.specs.Prelude.{AdminPolicy, AreRulesOf, Decider, Direction, EstateLists, LayerRules, Mark, NetPolicy, RuleId, RuleName, Tier, admin_count, admin_rule_in, base_count, base_rule_in, ids_of, is_id, is_met, net_count, net_rule_in, place_in, policy_name_at, rule_count_at, rule_in}
 use Rattle.np_explain.proofs.PlaceLemmas.{at_place}
-use Rattle.np_explain.specs.Marks.{IsMarkOf, admin_rules, base_rules, mark_decider, net_rules, pass_name}
-use Rattle.np_explain.specs.RightParts.{same_rule}
+use Rattle.np_explain.specs.Prelude.{IsMarkOf, admin_rules, base_rules, mark_decider, net_rules, pass_name, same_rule}
 use Rattle.np_unused.proofs.PolicyLemmas.{one_admin_policy, one_net_policy}
-use Rattle.np_unused.specs.Rules.{admin_count, base_count, net_count, policy_name_at, rule_count_at}
-use Rattle.np_unused.specs.Used.{admin_rule_in, base_rule_in, net_rule_in, rule_in}
 use Rattle.np_unused.specs.declared.rule_ref.Tier.TheVariants as tier
-use Rattle.np_unused.specs.steps.Known.{ids_of, is_id, is_met, place_in}
-use Rattle.np_unused.specs.steps.Search.{AreRulesOf}
-use Rattle.np_rules.specs.Deciders.{admin_rule_name, base_rule_name, net_policy_name, net_rule_name}
-use Rattle.np_rules.specs.LayerRules.{NamesAdmin, NamesBase, NamesNet}
-use Rattle.np_rules.specs.Layers.{Pairwise}
-use Rattle.np_rules.specs.model.Places.{PlacedAdminRule, PlacedBaseRule, PlacedNetRule}
-use Rattle.np_rules.specs.PodSides.{PodSide}
-use Rattle.np_rules.specs.model.Sides.{is_allow}
+use Rattle.np_rules.specs.Prelude.{NamesAdmin, NamesBase, NamesNet, Pairwise, PlacedAdminRule, PlacedBaseRule, PlacedNetRule, PodSide, admin_rule_name, base_rule_name, is_allow, net_policy_name, net_rule_name}
 use Rattle.np_rules.specs.declared.decider.Decider.TheVariants as decider
 use Rattle.np_tiers.specs.declared.mark.Mark.TheVariants as mark
 

@@ -5,9 +5,7 @@ use Rattle.std.specs.Option.{option_or}
 use Rattle.std.proofs.lemmas.Bool.{and_from, and_parts, false≢true, or_cases, or_left, or_right}
 use Rattle.std.proofs.lemmas.Bool.Decides.{eqb_tells}
 use Rattle.np_unused.proofs.FirstLemmas.{any-first_rule, first_rule-append}
-use Rattle.np_unused.specs.Types.{AdminPart, Flags, RuleId, RuleSpots}
-use Rattle.np_unused.specs.steps.Firsts.{Notes, first_rule, hands_down, names}
-use Rattle.np_unused.specs.steps.Known.{flag_at}
+use Rattle.np_unused.specs.Prelude.{AdminPart, Flags, Notes, RuleId, RuleSpots, first_rule, flag_at, hands_down, names}
 
 -- ---- tests
 

@@ -6,11 +6,8 @@ use Rattle.std.proofs.lemmas.List.FromFn.{get_or-map-range_with_len, length-map-
 use Rattle.std.proofs.lemmas.List.Kept.{AllPairs-filter}
 use Rattle.np_base.proofs.Lists.{AllPairs-append}
 use Rattle.np_addr.proofs.Pairs.{AllPairs-nil}
-use Rattle.np_unused.specs.Types.{Admin, Base, Direction, Egress, EstateLists, Ingress, Net, RuleRef, Tier}
+use Rattle.np_unused.specs.Prelude.{Admin, Base, Direction, Egress, EstateLists, Ingress, Net, RuleRef, StandsBefore, Tier, all_rules, direction_number, is_used, policy_count, rule_count_at, rules_from, rules_of_policy, rules_of_tier, tier_number, unused_of}
 use Rattle.np_unused.proofs.RuleListLemmas.{numbered_all}
-use Rattle.np_unused.specs.Order.{StandsBefore, direction_number, tier_number}
-use Rattle.np_unused.specs.Rules.{all_rules, policy_count, rule_count_at, rules_from, rules_of_policy, rules_of_tier}
-use Rattle.np_unused.specs.Used.{is_used, unused_of}
 
 -- numbered items, of which each stands before those of greater numbers
 numbered_pairs : {X : Type 0} (R : X → X → Type 0) (f : ℕ → X) (count : ℕ) → ((m n : ℕ) → m < n → R (f m) (f n)) → AllPairs R (map f (range_with_len 0 count))

@@ -7,11 +7,9 @@ use Rattle.std.proofs.lemmas.Bool.{and_parts, cases_order, false≢true, not-tru
 use Rattle.std.proofs.lemmas.Cmp.{nat_list_cmp_total, tied_itself}
 use Rattle.std.proofs.lemmas.Option.{get_or_from_slice_get, slice_get_within}
 use Rattle.std.proofs.lemmas.Slice.Eq.{bytes_eq-Decides}
-use Rattle.np_model.specs.Lawful.{AreNamesApart, IsLawful, StandsBefore, comes_before, is_well}
-use Rattle.np_unused.specs.Types.{AdminPolicy, EstateLists, NetPolicy}
-use Rattle.np_model.specs.Words.{is_name}
-use Rattle.np_model.specs.WellPolicies.{is_well_net_policy}
-use Rattle.np_rules.specs.Deciders.{net_policy_name}
+use Rattle.np_model.specs.Prelude.{AreNamesApart, IsLawful, StandsBefore, comes_before, is_name, is_well, is_well_net_policy}
+use Rattle.np_unused.specs.Prelude.{AdminPolicy, EstateLists, NetPolicy}
+use Rattle.np_rules.specs.Prelude.{net_policy_name}
 
 -- two places of items that pairwise differ are one where the items' names are
 one_place : {X N : Type 0} (name : X → N) (xs : List X) → AllPairs (λ x y. name x ≢ name y) xs → (p q : ℕ) (x y : X) → slice_get xs p ≡ Some x → slice_get xs q ≡ Some y → name x ≡ name y → p ≡ q

@@ -2,10 +2,9 @@
 use Rattle.std.proofs.Common.{◌≡◌, ℕ, ◌<◌, List, [], length, get_or, slice_get, Option, refl, sym, ap, ◌∙◌, subst}
 use Rattle.std.specs.Option.{option_map_or}
 use Rattle.std.proofs.lemmas.Option.{slice_get_read}
-use Rattle.np_unused.specs.Types.{EstateLists, Net, NetPolicy, RuleRef, Tier}
+use Rattle.np_unused.specs.Prelude.{EstateLists, IsRuleOf, Net, NetPolicy, RuleRef, Tier, policy_count, policy_name_at}
 use Rattle.np_unused.proofs.RuleListLemmas.{policy_within}
-use Rattle.np_unused.specs.Rules.{IsRuleOf, policy_count, policy_name_at}
-use Rattle.np_rules.specs.Deciders.{net_policy_name}
+use Rattle.np_rules.specs.Prelude.{net_policy_name}
 
 -- the name of a NetworkPolicy that was read
 pub net_name : (lists : EstateLists) (tier : Tier) (place : ℕ) (policies : List NetPolicy) (policy : NetPolicy) (text : List ℕ) → tier ≡ Net → policies ≡ lists.net_policies → place < length policies →

@@ -4,8 +4,7 @@ use Rattle.std.specs.List.{flat_map, range_with_len}
 use Rattle.std.proofs.lemmas.Grind.{flat_map-append}
 use Rattle.std.proofs.lemmas.List.FromFn.{map-range_with_len_more}
 use Rattle.np_classes.proofs.Lists.{places_more}
-use Rattle.np_unused.specs.Types.{Admin, AdminPolicy, Base, Direction, Egress, EstateLists, Ingress, Net, NetPolicy, RuleRef, Tier}
-use Rattle.np_unused.specs.Rules.{all_rules, rule_count_at, rules_from, rules_of_policy, rules_of_tier}
+use Rattle.np_unused.specs.Prelude.{Admin, AdminPolicy, Base, Direction, Egress, EstateLists, Ingress, Net, NetPolicy, RuleRef, Tier, all_rules, rule_count_at, rules_from, rules_of_policy, rules_of_tier}
 
 -- one rule more
 pub rule_more : (tier : Tier) (policy : ℕ) (direction : Direction) (place : ℕ) (before so_far made : List RuleRef) →

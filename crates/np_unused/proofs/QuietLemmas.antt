@@ -5,35 +5,23 @@ use Rattle.std.specs.List.{list_any}
 use Rattle.std.specs.Option.{option_map, option_map_or}
 use Rattle.std.proofs.lemmas.Bool.{false≢true, or_parts}
 use Rattle.std.proofs.lemmas.Option.{slice_get-get_or, slice_get-map, slice_get_within}
-use Rattle.np_unused.specs.Types.{Decider, Direction, EstateLists, Family, KindPod, Kinds, LayerRules, RuleName, Search, UsedRules}
-use Rattle.np_conns.specs.Conns.{is_spot}
-use Rattle.np_model.specs.Lawful.{IsLawful}
-use Rattle.np_explain.specs.RightParts.{same_rule}
-use Rattle.np_fold.specs.Workloads.{folding_of}
+use Rattle.np_unused.specs.Prelude.{AreKindPods, AreKinds, AreRulesOf, Decider, Direction, EstateLists, Family, IsSearch, IsSearchOf, KindPod, Kinds, Knows, KnowsAll, KnowsKind, KnowsSide, LayerRules, RuleName, Search, Searched, UsedRules, are_known, base_rule_in, is_asked, may_tell, net_rule_in, ref_of, rule_name}
+use Rattle.np_conns.specs.Prelude.{is_spot}
+use Rattle.np_model.specs.Prelude.{IsLawful}
+use Rattle.np_explain.specs.Prelude.{same_rule}
+use Rattle.np_fold.specs.Prelude.{folding_of}
 use Rattle.np_unused.proofs.FindLemmas.{addresses_listed, pods_listed}
 use Rattle.np_unused.proofs.SearchLemmas.{knows_admin}
 use Rattle.np_unused.proofs.StepLemmas.{kind_at, kind_is, pod_of_kind, searched_as}
-use Rattle.np_unused.specs.Rules.{rule_name}
-use Rattle.np_unused.specs.Used.{base_rule_in, net_rule_in}
 use Rattle.np_unused.specs.declared.rule_ref.Tier.TheVariants as tier
-use Rattle.np_unused.specs.steps.Kinds.{AreKindPods, is_asked}
-use Rattle.np_unused.specs.steps.Known.{are_known}
-use Rattle.np_unused.specs.steps.Search.{AreKinds, AreRulesOf, IsSearch, IsSearchOf, Knows, KnowsAll, KnowsKind, KnowsSide, Searched, may_tell, ref_of}
 use Rattle.np_model.specs.declared.admin_policy.Action.{Action}
 use Rattle.np_model.specs.declared.admin_policy.Action.TheVariants.{Allow, Deny, Pass}
 use Rattle.np_reach.proofs.MarkLemmas.{may_at-of}
 use Rattle.np_reach.proofs.ReachLemmas.{isolated-out_of_reach, unmatched-out_of_reach}
-use Rattle.np_reach.specs.Reach.{may_at, may_reach}
-use Rattle.np_rules.specs.model.AdminTier.{admin_decider, least_by}
-use Rattle.np_rules.specs.model.BaseTier.{base_decider}
-use Rattle.np_rules.specs.Deciders.{action_decides, admin_decides, admin_rule_name, base_decides, decider, isolating_names, lower_decider, net_decider, net_decides, net_precedes}
-use Rattle.np_rules.specs.model.Ends.{Contact, PodEnd, pod}
-use Rattle.np_rules.specs.model.NetTier.{placed_net_matches}
-use Rattle.np_rules.specs.model.Places.{PlacedAdminRule, PlacedNetRule, net_places}
-use Rattle.np_rules.specs.PodSides.{PodSide, near_pod, side_of, with_pod}
-use Rattle.np_rules.specs.model.Verdict.{pod_at}
+use Rattle.np_reach.specs.Prelude.{may_at, may_reach}
+use Rattle.np_rules.specs.Prelude.{Contact, PlacedAdminRule, PlacedNetRule, PodEnd, PodSide, action_decides, admin_decider, admin_decides, admin_rule_name, base_decider, base_decides, decider, isolating_names, least_by, lower_decider, near_pod, net_decider, net_decides, net_places, net_precedes, placed_net_matches, pod, pod_at, side_of, with_pod}
 use Rattle.np_rules.specs.declared.decider.Decider.TheVariants as decides
-use Rattle.np_kinds.specs.Kinds.{first_end, first_ends}
+use Rattle.np_kinds.specs.Prelude.{first_end, first_ends}
 
 -- ---- deciders
 

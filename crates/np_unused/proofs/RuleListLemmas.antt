@@ -7,10 +7,7 @@ use Rattle.std.proofs.lemmas.List.Elements.{All-append, All-nil, Contains-append
 use Rattle.std.proofs.lemmas.List.FromFn.{get_or-map-range_with_len, get_or-range_with_len, length-map-range_with_len, length-range_with_len}
 use Rattle.std.proofs.lemmas.Option.{slice_get_within}
 use Rattle.np_classes.proofs.Lists.{filter_agree_on}
-use Rattle.np_unused.specs.Types.{Admin, AdminPolicy, Base, Direction, Egress, EstateLists, Ingress, Net, NetPolicy, Tier, UsedRules}
-use Rattle.np_unused.specs.Rules.{IsRuleOf, admin_count, all_rules, base_count, net_count, policy_count, rule_count_at, rules_from, rules_of_policy, rules_of_tier}
-use Rattle.np_unused.specs.Used.{is_used, unused_of}
-use Rattle.np_unused.specs.steps.Search.{Finds, is_known_by}
+use Rattle.np_unused.specs.Prelude.{Admin, AdminPolicy, Base, Direction, Egress, EstateLists, Finds, Ingress, IsRuleOf, Net, NetPolicy, Tier, UsedRules, admin_count, all_rules, base_count, is_known_by, is_used, net_count, policy_count, rule_count_at, rules_from, rules_of_policy, rules_of_tier, unused_of}
 
 -- ---- lists
 

@@ -2,26 +2,15 @@
 use Rattle.std.proofs.Common.{◌≡◌, ℕ, ◌<◌, List, [], ◌∷◌, Bool, true, false, map, refl, sym, ap, ◌∙◌, inl, inr}
 use Rattle.std.specs.Option.{option_map_or}
 use Rattle.std.proofs.lemmas.Bool.{and_from, and_parts}
-use Rattle.np_model.specs.Lawful.{IsLawful}
-use Rattle.np_explain.specs.Marks.{IsMarkOf, admin_rules, base_rules, mark_decider, net_rules}
-use Rattle.np_explain.specs.RightParts.{same_rule}
+use Rattle.np_model.specs.Prelude.{IsLawful}
+use Rattle.np_explain.specs.Prelude.{IsMarkOf, admin_rules, base_rules, mark_decider, net_rules, same_rule}
 use Rattle.np_explain.proofs.WalkLemmas.{mark_named}
 use Rattle.np_unused.proofs.KnownLemmas.{marks_test}
 use Rattle.np_unused.proofs.NameLemmas.{mark_rule, met_flagged, met_named}
-use Rattle.np_unused.specs.Rules.{rule_count_at, rule_name}
-use Rattle.np_unused.specs.Used.{stands_in}
-use Rattle.np_unused.specs.Types.{Layer, LayerRules, Mark, Tier, UsedRules}
+use Rattle.np_unused.specs.Prelude.{AllAreUsed, AreRulesOf, AreUsed, IsSound, Knows, KnowsAll, Layer, LayerRules, Mark, Notes, Searched, Tier, UsedRules, all_known, are_known, flag_at, flags_of, ids_of, is_known, is_met, marks, place_in, ref_of, rule_count_at, rule_name, side_decider, stands_in}
 use Rattle.np_unused.specs.declared.rule_ref.Tier.TheVariants as tier
-use Rattle.np_unused.specs.steps.Firsts.{Notes}
-use Rattle.np_unused.specs.steps.Known.{all_known, are_known, flag_at, flags_of, ids_of, is_known, is_met, marks, place_in}
-use Rattle.np_unused.specs.steps.Search.{AllAreUsed, AreRulesOf, AreUsed, IsSound, Knows, KnowsAll, Searched, ref_of, side_decider}
-use Rattle.np_rules.specs.model.Ends.{Contact}
-use Rattle.np_rules.specs.Layers.{IsAdminPart, IsBasePart, IsLayer, IsSetOf, Pairwise, matches_of, tier_action}
-use Rattle.np_rules.specs.model.NetTier.{is_isolated}
-use Rattle.np_rules.specs.PodSides.{PodSide, near_pod}
-use Rattle.np_rules.specs.model.Rules.{admin_rule_matches}
-use Rattle.np_rules.specs.model.Sides.{is_allow}
-use Rattle.np_tiers.specs.Marks.{mark_of}
+use Rattle.np_rules.specs.Prelude.{Contact, IsAdminPart, IsBasePart, IsLayer, IsSetOf, Pairwise, PodSide, admin_rule_matches, is_allow, is_isolated, matches_of, near_pod, tier_action}
+use Rattle.np_tiers.specs.Prelude.{mark_of}
 
 -- ---- marks and rules
 

@@ -1,15 +1,11 @@
 -- Steps of the search: what was known stays known. For `note_others`, `search_ends` and 5 more.
 use Rattle.std.proofs.Common.{◌≡◌, ℕ, ◌+◌, ◌<◌, ◌≤◌, List, Bool, true, false, below_more, length, get_or, slice_get, Some, sym, ◌∙◌, arith}
 use Rattle.std.proofs.lemmas.Option.{get_or_from_slice_get, slice_get-get_or, slice_get_within}
-use Rattle.np_unused.specs.Types.{Direction, EstateLists, Family, KindPod, LayerRules, Tier, UsedRules}
-use Rattle.np_conns.specs.Conns.{is_spot}
-use Rattle.np_model.specs.Lawful.{IsLawful}
+use Rattle.np_unused.specs.Prelude.{AreRulesOf, Direction, EstateLists, Family, Grows, IsSound, KindPod, Knows, KnowsAll, KnowsFar, KnowsKind, KnowsPods, KnowsSide, LayerRules, Searched, Tier, UsedRules, all_known, is_known}
+use Rattle.np_conns.specs.Prelude.{is_spot}
+use Rattle.np_model.specs.Prelude.{IsLawful}
 use Rattle.np_unused.proofs.SearchLemmas.{knows_side}
-use Rattle.np_unused.specs.steps.Known.{all_known, is_known}
-use Rattle.np_unused.specs.steps.Search.{AreRulesOf, Grows, IsSound, Knows, KnowsAll, KnowsFar, KnowsKind, KnowsPods, KnowsSide, Searched}
-use Rattle.np_rules.specs.model.Ends.{Contact}
-use Rattle.np_rules.specs.EveryAddress.{is_address_spot}
-use Rattle.np_rules.specs.PodSides.{PodSide, side_of, with_addresses, with_pod}
+use Rattle.np_rules.specs.Prelude.{Contact, PodSide, is_address_spot, side_of, with_addresses, with_pod}
 
 -- ---- one step after another
 

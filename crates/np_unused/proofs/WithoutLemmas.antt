@@ -5,15 +5,10 @@ use Rattle.std.specs.Option.{option_map, option_map_or}
 use Rattle.std.proofs.lemmas.List.{map-append}
 use Rattle.std.proofs.lemmas.List.Elements.{All-append, All-cons, All-nil, filter-append}
 use Rattle.np_tiers.proofs.Verdicts.{StandsAt, first_stands, rest_stands}
-use Rattle.np_model.specs.Lawful.{HasAscendingPriorities, ascends}
-use Rattle.np_unused.specs.Rules.{admin_count, base_count, net_count}
-use Rattle.np_unused.specs.Without.{admin_without, base_without, goes, net_without, without_places}
-use Rattle.np_unused.specs.Types.{Admin, AdminPolicy, AdminRule, Base, BasePolicy, Direction, Egress, Ingress, Net, NetPolicy, NetRule, RuleRef}
+use Rattle.np_model.specs.Prelude.{HasAscendingPriorities, ascends}
+use Rattle.np_unused.specs.Prelude.{Admin, AdminPolicy, AdminRule, Base, BasePolicy, Direction, Egress, Ingress, Net, NetPolicy, NetRule, RuleRef, admin_count, admin_without, base_count, base_without, goes, net_count, net_without, without_places}
 use Rattle.np_rules.proofs.PlacesLemmas.{map-numbered}
-use Rattle.np_rules.specs.model.Ends.{PodEnd}
-use Rattle.np_rules.specs.model.NetTier.{is_isolated, isolates}
-use Rattle.np_rules.specs.model.Places.{PlacedAdminRule, PlacedBaseRule, PlacedNetRule, admin_places, admin_places_of, admin_rules_of, base_places, base_rules_of, net_places, net_places_of, net_rules_of}
-use Rattle.np_rules.specs.model.Selection.{net_selects, subject_selects}
+use Rattle.np_rules.specs.Prelude.{PlacedAdminRule, PlacedBaseRule, PlacedNetRule, PodEnd, admin_places, admin_places_of, admin_rules_of, base_places, base_rules_of, is_isolated, isolates, net_places, net_places_of, net_rules_of, net_selects, subject_selects}
 
 -- ---- any kind of placed rules
 

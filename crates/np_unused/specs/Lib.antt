@@ -1,6 +1,7 @@
 pub mod Order
+pub mod Prelude
 pub mod Rules
+pub mod steps
 pub mod Types
 pub mod Used
 pub mod Without
-pub mod steps

@@ -4,8 +4,7 @@ use Rattle.std.specs.List.{flat_map, range_with_len, slice_get}
 use Rattle.std.specs.Option.{option_map_or}
 use Rattle.np_unused.specs.Types.{Admin, AdminPolicy, Base, BasePolicy, Direction, Egress, EstateLists, Ingress, Net, NetPolicy, RuleName, RuleRef, Tier}
 use Rattle.np_explain.specs.DeciderText as explain
-use Rattle.np_rules.specs.Deciders.{net_policy_name}
-use Rattle.np_rules.specs.model.Places.{admin_rules_of, base_rules_of, net_rules_of}
+use Rattle.np_rules.specs.Prelude.{admin_rules_of, base_rules_of, net_policy_name, net_rules_of}
 
 -- ---- how many
 

@@ -2,12 +2,11 @@
 use Rattle.std.specs.Prelude.{◌≡◌, ℕ, ◌<◌, ◌^◌, List, [], ◌∷◌, ◌++◌, map, filter, length, Bool, true, false, ◌&&◌, not, Option, Some, None}
 use Rattle.std.specs.List.{Contains, list_any, range_with_len}
 use Rattle.std.specs.Option.{option_map_or}
-use Rattle.np_addr.specs.Addresses.{IsAddress, family_of}
+use Rattle.np_addr.specs.Prelude.{IsAddress, family_of}
 use Rattle.np_unused.specs.Types.{At, Decider, End, EstateLists, Family, Four, Free, Isolated, NoSide, Pod, PortSpot, RuleName, RuleRef, Six, Tier}
-use Rattle.np_conns.specs.Conns.{is_spot}
-use Rattle.np_model.specs.Families.{families_of}
-use Rattle.np_explain.specs.RightParts.{all_spots, same_rule}
-use Rattle.np_explain.specs.Sides.{are_one_pod, decider_between}
+use Rattle.np_conns.specs.Prelude.{is_spot}
+use Rattle.np_model.specs.Prelude.{families_of}
+use Rattle.np_explain.specs.Prelude.{all_spots, are_one_pod, decider_between, same_rule}
 use Rattle.np_unused.specs.Rules.{all_rules, rule_name}
 use Rattle.np_unused.specs.declared.rule_ref.Tier.TheVariants as tier
 use Rattle.np_rules.specs.declared.decider.Decider.TheVariants.{Admin, Net, Base}

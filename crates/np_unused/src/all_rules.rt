@@ -1,7 +1,7 @@
 //! All rules of an estate.
 ghost use Rattle.std.specs.Prelude.{◌≡◌, ◌+◌, ◌≤◌, ◌++◌, IfOk, OnOk};
 ghost use Rattle.std.specs.List.{flat_map, range_with_len};
-ghost use Rattle.np_model.specs.Lawful.{IsFew};
+ghost use Rattle.np_model.specs.Prelude.{IsFew};
 ghost use Rattle.np_unused.specs.Rules as spec;
 
 use crate::rule_ref::{RuleRef, Tier};

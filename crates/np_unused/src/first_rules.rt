@@ -1,8 +1,7 @@
 //! The rules that are the first to match some spot.
 ghost use Rattle.std.specs.Prelude.{◌≡◌, ◌⊎◌, ◌&&◌, ℕ, true, Some, None, All, if◌then◌else◌, OnOk};
 ghost use Rattle.std.specs.List.{list_all};
-ghost use Rattle.np_unused.specs.steps.Firsts.{Notes, first_at, first_rule, hands_down, names};
-ghost use Rattle.np_unused.specs.steps.Known.{flag_at};
+ghost use Rattle.np_unused.specs.Prelude.{Notes, first_at, first_rule, flag_at, hands_down, names};
 
 use crate::flags::Flags;
 use crate::handed_down::handed_down;

@@ -1,6 +1,6 @@
 //! What admin rules hand down.
 ghost use Rattle.std.specs.Prelude.{◌≡◌, true, IfOk};
-ghost use Rattle.np_unused.specs.steps.Firsts.{hands_down};
+ghost use Rattle.np_unused.specs.Prelude.{hands_down};
 
 use np_base::{Cells, NoMemory, Seq};
 use np_tiers::{AdminPart, Layer, verdict_set};

@@ -3,15 +3,12 @@ ghost use Rattle.std.specs.Prelude.{◌≡◌, ◌↔◌, AllPairs};
 ghost use Rattle.std.specs.List.{Contains};
 ghost use Rattle.np_addr.specs.declared.address.Family.{Family};
 ghost use Rattle.np_conns.specs.declared.port_spot.PortSpot.{PortSpot};
-ghost use Rattle.np_model.specs.Lawful.{IsLawful};
+ghost use Rattle.np_model.specs.Prelude.{IsLawful};
 ghost use Rattle.np_model.specs.declared.lists.EstateLists.{EstateLists};
-ghost use Rattle.np_explain.specs.Sides.{packet_between};
-ghost use Rattle.np_unused.specs.Order.{StandsBefore};
-ghost use Rattle.np_unused.specs.Rules.{IsRuleOf};
-ghost use Rattle.np_unused.specs.Used.{IsListedPacket, StandsIn, unused_of};
-ghost use Rattle.np_unused.specs.Without.{without};
+ghost use Rattle.np_explain.specs.Prelude.{packet_between};
+ghost use Rattle.np_unused.specs.Prelude.{IsListedPacket, IsRuleOf, StandsBefore, StandsIn, unused_of, without};
 ghost use Rattle.np_unused.specs.declared.rule_ref.RuleRef.{RuleRef};
-ghost use Rattle.np_rules.specs.model.Verdict.{allows};
+ghost use Rattle.np_rules.specs.Prelude.{allows};
 ghost use Rattle.np_rules.specs.declared.packet.End.{End};
 
 /// A rule is among the unused ones exactly where it is a rule of the estate and stands in what decides no packet between

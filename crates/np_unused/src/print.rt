@@ -1,6 +1,6 @@
 //! The text of a rule.
 ghost use Rattle.std.specs.Prelude.{◌≡◌, ◌<◌, IfOk};
-ghost use Rattle.np_unused.specs.Rules.{IsRuleOf, policy_name_at, rule_count_at, rule_text, tier_text};
+ghost use Rattle.np_unused.specs.Prelude.{IsRuleOf, policy_name_at, rule_count_at, rule_text, tier_text};
 
 use crate::rule_ref::{RuleRef, Tier};
 use np_base::{NoMemory, Text};

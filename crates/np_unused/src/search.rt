@@ -3,13 +3,11 @@ ghost use Rattle.std.specs.Prelude.{◌≡◌, ◌<◌, ◌≤◌, Some, slice_g
 ghost use Rattle.std.specs.List.{Contains};
 ghost use Rattle.np_unused.specs.declared.kind_pods.KindPod.{KindPod as SpecPod};
 ghost use Rattle.np_unused.specs.steps.Kinds.{is_asked};
-ghost use Rattle.np_unused.specs.steps.Search.{AreKinds, Finds, IsSearch, KnowsAll, KnowsFamilies};
-ghost use Rattle.np_unused.specs.steps.Search.{KnowsFar, KnowsKind, KnowsPods, KnowsSide, Searched, may_tell};
-ghost use Rattle.np_model.specs.Families.{families_of};
-ghost use Rattle.np_reach.specs.Reach.{reach_of};
-ghost use Rattle.np_rules.specs.EveryAddress.{is_address_spot};
-ghost use Rattle.np_rules.specs.PodSides.{with_addresses};
-ghost use Rattle.np_kinds.specs.Kinds.{first_ends};
+ghost use Rattle.np_unused.specs.steps.Search.{AreKinds, Finds, IsSearch, KnowsAll, KnowsFamilies, KnowsFar, KnowsKind, KnowsPods, KnowsSide, Searched, may_tell};
+ghost use Rattle.np_model.specs.Prelude.{families_of};
+ghost use Rattle.np_reach.specs.Prelude.{reach_of};
+ghost use Rattle.np_rules.specs.Prelude.{is_address_spot, with_addresses};
+ghost use Rattle.np_kinds.specs.Prelude.{first_ends};
 
 use crate::kind_pods::{KindPod, kind_pods};
 use crate::used_rules::{UsedRules, has_each};

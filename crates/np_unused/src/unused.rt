@@ -1,7 +1,6 @@
 //! The rules that decide nothing.
 ghost use Rattle.std.specs.Prelude.{◌≡◌, ◌≤◌, filter, not, IfOk};
-ghost use Rattle.np_unused.specs.Used.{unused_of};
-ghost use Rattle.np_unused.specs.steps.Search.{is_known_by};
+ghost use Rattle.np_unused.specs.Prelude.{is_known_by, unused_of};
 
 use crate::all_rules::all_rules;
 use crate::rule_ref::RuleRef;

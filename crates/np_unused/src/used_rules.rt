@@ -3,7 +3,7 @@ ghost use Rattle.std.specs.Prelude.{◌≡◌, ◌&&◌, ℕ, false, OnOk};
 ghost use Rattle.np_unused.specs.declared.rule_ref.Tier.{Tier as SpecTier};
 ghost use Rattle.np_unused.specs.steps.Firsts.{Notes};
 ghost use Rattle.np_unused.specs.steps.Known.{all_known, are_known, flags_of, is_known, marks};
-ghost use Rattle.np_tiers.specs.Marks.{mark_of};
+ghost use Rattle.np_tiers.specs.Prelude.{mark_of};
 
 use crate::first_rules::note_tier;
 use crate::flags::Flags;

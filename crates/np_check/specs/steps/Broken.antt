@@ -1,12 +1,11 @@
 -- Addresses with which a workload breaks a statement.
 use Rattle.std.specs.Prelude.{ℕ, List, [], ◌∷◌, Bool, Option, None, Some, option_map, max, nat_le, if◌then◌else◌}
-use Rattle.np_addr.specs.Addresses.{family_of}
-use Rattle.np_addr.specs.Blocks.{AddressRanges}
+use Rattle.np_addr.specs.Prelude.{AddressRanges, family_of}
 use Rattle.np_check.specs.Types.{Address, BreakingAddress, Counterexample, Family, Four, PortSpot, Range, Six, Wanted}
 use Rattle.np_check.specs.Counterexamples.{addresses_of, breaks, number_of_address}
 use Rattle.np_check.specs.Firsts.{first_of, first_spot}
 use Rattle.np_check.specs.Order.{comes_before}
-use Rattle.np_conns.specs.Conns.{Conns, has_spot}
+use Rattle.np_conns.specs.Prelude.{Conns, has_spot}
 use Rattle.np_table.specs.declared.rows.AddressRow.{AddressRow}
 use Rattle.np_table.specs.declared.rows.AddressSpan.{AddressSpan}
 use Rattle.np_table.specs.declared.rows.AddressSpan.TheVariants as span

@@ -3,9 +3,9 @@ use Rattle.std.specs.Prelude.{◌≡◌, ◌&&◌, ◌==◌, ℕ, List, Bool, tr
 use Rattle.std.specs.List.{list_any}
 use Rattle.np_check.specs.Counterexamples.{counterexample_between}
 use Rattle.np_check.specs.Types.{Allow, Deny, EstateLists, Wanted, Work}
-use Rattle.np_conns.specs.Conns.{Conns}
-use Rattle.np_fold.specs.Workloads.{folding_of}
-use Rattle.np_kinds.specs.Between.{IsWorkload}
+use Rattle.np_conns.specs.Prelude.{Conns}
+use Rattle.np_fold.specs.Prelude.{folding_of}
+use Rattle.np_kinds.specs.Prelude.{IsWorkload}
 
 -- whether a statement wants that no packet is allowed
 abbrev pub is_deny : Wanted → Bool

@@ -3,7 +3,7 @@ use Rattle.std.specs.Prelude.{◌≡◌, ℕ, List, ◌++◌, Result, Ok, Err, �
 use Rattle.np_command.specs.Sinks.{SinkTrace}
 use Rattle.np_command.specs.Written.{Writes}
 use Rattle.np_command.specs.Types.{WriteFault}
-use Rattle.np_io.specs.Taken.{TookAllBut}
+use Rattle.np_io.specs.Prelude.{TookAllBut}
 
 -- The sink took all of what was held and of the bytes, but what is held now, and no call on it failed.
 pub record PutAll (out : SinkTrace) (held left bytes : List ℕ) : Type 0 where

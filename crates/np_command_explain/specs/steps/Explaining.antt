@@ -1,14 +1,13 @@
 -- Ends that are there, and lines of the text of what decides between them.
 use Rattle.std.specs.Prelude.{◌≡◌, ◌<◌, ℕ, List, ◌++◌, length, codes, false, Option}
 use Rattle.np_command_explain.specs.Types.{AskedEnd, At, Direction, Egress, ExplainedEnds, EstateLists, Explanation, Family, Ingress, Part, Shown, Work}
-use Rattle.np_conns.specs.Conns.{has_spot}
-use Rattle.np_conns.specs.ConnsText.{conns_text}
-use Rattle.np_explain.specs.Sides.{are_one_pod}
-use Rattle.np_fold.specs.Workloads.{Folding, members_of}
-use Rattle.np_model.specs.Words.{direction_text}
-use Rattle.np_report.specs.RowText.{family_suffix}
-use Rattle.np_rules.specs.model.Verdict.{IsEndOf}
-use Rattle.np_kinds.specs.Between.{IsWorkload}
+use Rattle.np_conns.specs.Prelude.{conns_text, has_spot}
+use Rattle.np_explain.specs.Prelude.{are_one_pod}
+use Rattle.np_fold.specs.Prelude.{Folding, members_of}
+use Rattle.np_model.specs.Prelude.{direction_text}
+use Rattle.np_report.specs.Prelude.{family_suffix}
+use Rattle.np_rules.specs.Prelude.{IsEndOf}
+use Rattle.np_kinds.specs.Prelude.{IsWorkload}
 
 -- the number is a workload's
 abbrev pub IsAsked : EstateLists → AskedEnd → Type 0

@@ -1,13 +1,11 @@
 -- What the choices that are left settle of the rules of NetworkPolicies.
 use Rattle.std.specs.Prelude.{◌≡◌, ℕ, List, Bool, true, ◌||◌, Option, IfSome}
 use Rattle.std.specs.List.{list_any}
-use Rattle.np_conns.specs.Conns.{has_spot, is_spot}
+use Rattle.np_conns.specs.Prelude.{has_spot, is_spot}
 use Rattle.np_exposure.specs.Types.{OpenRule, OpenRules, PortSpot, Stranger}
 use Rattle.np_exposure.specs.Choices.{Choices}
 use Rattle.np_exposure.specs.steps.States.{IsWitness}
-use Rattle.np_rules.specs.model.Ends.{pod, stranger_end}
-use Rattle.np_rules.specs.PodSides.{PodSide, near_pod}
-use Rattle.np_rules.specs.StrangerRules.{kept_matches, permits_stranger}
+use Rattle.np_rules.specs.Prelude.{PodSide, kept_matches, near_pod, permits_stranger, pod, stranger_end}
 
 -- ---- answers that may not be known
 

@@ -7,8 +7,8 @@ use Rattle.np_exposure.specs.Mentions.{same_side}
 use Rattle.np_exposure.specs.Strangers.{is_hypothetical, labels_at}
 use Rattle.np_exposure.specs.Weight.{looks_at}
 use Rattle.np_exposure.specs.Types.{SidedRequirement, Stranger}
-use Rattle.np_labels.specs.Labels.{value_of}
-use Rattle.np_rules.specs.Laws.{IsAmong}
+use Rattle.np_labels.specs.Prelude.{value_of}
+use Rattle.np_rules.specs.Prelude.{IsAmong}
 
 abbrev pub as_wanted : Bool → Bool → Bool
 as_wanted true b = b

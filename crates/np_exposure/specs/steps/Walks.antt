@@ -1,12 +1,12 @@
 -- The rows of a walk over the requirements, with the choices that are left.
 use Rattle.std.specs.Prelude.{◌≡◌, List, [], ◌∷◌, Bool, true, false, not, Option, Some, None, if◌then◌else◌}
-use Rattle.np_conns.specs.Conns.{Conns}
+use Rattle.np_conns.specs.Prelude.{Conns}
 use Rattle.np_exposure.specs.Strangers.{IsExposure}
 use Rattle.np_exposure.specs.Tree.{IsJoined}
 use Rattle.np_exposure.specs.Types.{Aside, ExposureRow, Pending, SidedRequirement, Stranger}
 use Rattle.np_exposure.specs.Choices.{Choices}
 use Rattle.np_exposure.specs.steps.States.{IsWitness, can_be, is_decided, narrowed}
-use Rattle.np_rules.specs.PodSides.{PodSide}
+use Rattle.np_rules.specs.Prelude.{PodSide}
 
 -- one row of the exposure of a hypothetical pod with labels among the choices
 pub record IsLeaf (side : PodSide) (state : List Choices) (rows : List ExposureRow) : Type 0 where

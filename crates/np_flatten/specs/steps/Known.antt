@@ -1,6 +1,6 @@
 -- Workloads the rules of whose kinds are known.
 use Rattle.std.specs.Prelude.{◌≡◌, ◌<◌, ℕ, true}
-use Rattle.np_kinds.specs.Kinds.{KnownSides, knows}
+use Rattle.np_kinds.specs.Prelude.{KnownSides, knows}
 use Rattle.np_flatten.specs.Types.{Egress, Ingress}
 
 -- of each workload of a number below the count the rules are known, as it sends and as it receives

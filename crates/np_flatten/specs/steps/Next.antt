@@ -3,7 +3,7 @@ use Rattle.std.specs.Prelude.{ℕ, ◌+◌, ◌-◌, ◌==◌, find, Option}
 use Rattle.std.specs.List.{range_with_len}
 use Rattle.np_flatten.specs.Types.{EstateLists}
 use Rattle.np_flatten.specs.Groups.{group_of}
-use Rattle.np_kinds.specs.Between.{number_of_workloads}
+use Rattle.np_kinds.specs.Prelude.{number_of_workloads}
 
 -- the first one of a group behind a workload
 abbrev pub next_in : EstateLists → ℕ → ℕ → Option ℕ

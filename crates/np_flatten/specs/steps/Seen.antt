@@ -2,11 +2,11 @@
 use Rattle.std.specs.Prelude.{ℕ, List, []}
 use Rattle.std.specs.List.{filter_map}
 use Rattle.np_flatten.specs.Types.{EstateLists, Traits}
-use Rattle.np_fold.specs.Traits.{label_of}
+use Rattle.np_fold.specs.Prelude.{label_of}
 use Rattle.np_model.specs.declared.owner.Owner.{Owner}
-use Rattle.np_rules.specs.model.Ends.{PodEnd}
+use Rattle.np_rules.specs.Prelude.{PodEnd}
 use Rattle.np_flatten.specs.Groups.{relevant}
-use Rattle.np_kinds.specs.Kinds.{first_end}
+use Rattle.np_kinds.specs.Prelude.{first_end}
 
 -- an owner of no name
 abbrev pub nobody : Owner

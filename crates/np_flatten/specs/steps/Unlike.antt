@@ -4,7 +4,7 @@ use Rattle.np_flatten.specs.Types.{EstateLists}
 use Rattle.np_flatten.specs.Faults.{differ}
 use Rattle.np_flatten.specs.Groups.{first_of_group, group_of}
 use Rattle.np_flatten.specs.steps.Least.{IsLeast}
-use Rattle.np_kinds.specs.Between.{number_of_workloads}
+use Rattle.np_kinds.specs.Prelude.{number_of_workloads}
 
 -- the first workload of the group of one, by the lists of first workloads and of numbers of groups
 abbrev pub first_by : List ℕ → List ℕ → ℕ → ℕ

@@ -1,11 +1,11 @@
 -- Services, and what backends name of them.
 use Rattle.std.specs.Prelude.{ℕ, List, Bool, ◌&&◌, map}
 use Rattle.std.specs.List.{list_any}
-use Rattle.np_conns.specs.Conns.{same_proto}
+use Rattle.np_conns.specs.Prelude.{same_proto}
 use Rattle.np_routes.specs.Types.{AskedService, ServiceItem, ServicePort, Tcp}
 use Rattle.np_routes.specs.Services.{is_target, serves}
 use Rattle.np_routes.specs.steps.PortSets.{has_own}
-use Rattle.np_rules.specs.model.Ends.{PodEnd}
+use Rattle.np_rules.specs.Prelude.{PodEnd}
 
 -- the services themselves
 abbrev pub services_of : List AskedService → List ServiceItem

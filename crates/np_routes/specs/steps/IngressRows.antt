@@ -3,11 +3,11 @@ use Rattle.std.specs.Prelude.{ℕ, ◌≡◌, ◌<◌, ◌≤◌, ◌-◌, ◌*�
 use Rattle.std.specs.List.{range_with_len}
 use Rattle.std.specs.Option.{option_map_or}
 use Rattle.np_routes.specs.Types.{EstateLists, Row}
-use Rattle.np_fold.specs.Workloads.{folding_of}
+use Rattle.np_fold.specs.Prelude.{folding_of}
 use Rattle.np_routes.specs.ClusterTable.{ClusterTable, ingress_row}
 use Rattle.np_routes.specs.Controllers.{Routing}
-use Rattle.np_kinds.specs.Between.{IsWorkload, number_of_workloads}
-use Rattle.np_table.specs.ToCome.{RowsToCome, most_rules}
+use Rattle.np_kinds.specs.Prelude.{IsWorkload, number_of_workloads}
+use Rattle.np_table.specs.Prelude.{RowsToCome, most_rules}
 
 -- the rows of a table that are left, none where it has ended
 abbrev pub rows_left : Option RowsToCome → List Row

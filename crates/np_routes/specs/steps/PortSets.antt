@@ -7,10 +7,10 @@ use Rattle.std.specs.List.{list_any}
 use Rattle.std.specs.Option.{option_map_or}
 use Rattle.std.specs.Ordering.{nat_cmp}
 use Rattle.std.specs.Str.{bytes_eq}
-use Rattle.np_conns.specs.Conns.{same_proto}
+use Rattle.np_conns.specs.Prelude.{same_proto}
 use Rattle.np_routes.specs.Types.{Named, NamedPort, Number, PortName, PortSet, ServiceItem, ServicePort, Tcp}
 use Rattle.np_routes.specs.Services.{is_backend_port}
-use Rattle.np_rules.specs.model.Ends.{PodEnd}
+use Rattle.np_rules.specs.Prelude.{PodEnd}
 
 -- whether two ports are the same number, or the same name
 abbrev pub is_same_port : PortName → PortName → Bool

@@ -2,16 +2,13 @@
 use Rattle.std.specs.Prelude.{ℕ, ◌*◌, ◌+◌, List, length, Bool, ◌&&◌, Option, Some, None}
 use Rattle.std.specs.List.{list_any}
 use Rattle.np_routes.specs.Types.{Egress, EstateLists, Family, Ingress, PortSpot, Sender, Stranger}
-use Rattle.np_model.specs.Families.{families_of}
+use Rattle.np_model.specs.Prelude.{families_of}
 use Rattle.np_routes.specs.Controllers.{any_controller}
 use Rattle.np_routes.specs.Routes.{is_routed}
 use Rattle.np_routes.specs.declared.senders.Sender.TheVariants.{Pod, Anyone}
-use Rattle.np_rules.specs.PodSides.{PodSide, near_pod, side_of, side_rule_count, with_stranger}
-use Rattle.np_rules.specs.model.Sides.{side_allows}
-use Rattle.np_rules.specs.model.Verdict.{pod_at}
-use Rattle.np_table.specs.PairRules.{AreEnds}
-use Rattle.np_kinds.specs.Kinds.{first_side}
-use Rattle.np_kinds.specs.Between.{between_pods}
+use Rattle.np_rules.specs.Prelude.{PodSide, near_pod, pod_at, side_allows, side_of, side_rule_count, with_stranger}
+use Rattle.np_table.specs.Prelude.{AreEnds}
+use Rattle.np_kinds.specs.Prelude.{between_pods, first_side}
 
 -- the first pod of the controller, or one that is not known
 abbrev pub sender_for : EstateLists → Option ℕ → Sender

@@ -11,7 +11,7 @@ use Rattle.np_routes.specs.Types.{EstateLists, ServiceTargets}
 use Rattle.np_routes.specs.Routes.{leads_to, routes_in}
 use Rattle.np_routes.specs.Services.{serves}
 use Rattle.np_routes.specs.steps.PortSets.{at_pod}
-use Rattle.np_rules.specs.model.Ends.{PodEnd}
+use Rattle.np_rules.specs.Prelude.{PodEnd}
 
 -- whether a service serves a pod, and its targets have a port of the pod
 abbrev pub target_leads : PodEnd → ℕ → ServiceTargets → Bool

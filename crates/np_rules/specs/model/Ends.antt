@@ -2,7 +2,7 @@
 use Rattle.std.specs.Prelude.{ℕ, List, [], unwrap_or, codes}
 use Rattle.np_rules.specs.Types.{Address, Direction, Egress, Family, Ingress, NamedPort, PortSpot, Stranger}
 use Rattle.np_model.specs.declared.pod.Pod.{Pod}
-use Rattle.np_labels.specs.Labels.{value_of}
+use Rattle.np_labels.specs.Prelude.{value_of}
 use Rattle.np_labels.specs.declared.pair.Pair.{Pair}
 
 -- a pod, as rules see it

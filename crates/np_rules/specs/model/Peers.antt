@@ -2,11 +2,10 @@
 use Rattle.std.specs.Prelude.{ℕ, List, Bool, false, ◌&&◌, Option, Some, None}
 use Rattle.std.specs.List.{list_any}
 use Rattle.std.specs.Str.{bytes_eq}
-use Rattle.np_addr.specs.Blocks.{block_has}
+use Rattle.np_addr.specs.Prelude.{block_has, some_has}
 use Rattle.np_rules.specs.Types.{AdminPeer, Family, NetPeer}
-use Rattle.np_addr.specs.Prefixes.{some_has}
-use Rattle.np_model.specs.Families.{is_of}
-use Rattle.np_labels.specs.Selectors.{meets_selector}
+use Rattle.np_model.specs.Prelude.{is_of}
+use Rattle.np_labels.specs.Prelude.{meets_selector}
 use Rattle.np_labels.specs.declared.selector.Selector.{Selector}
 use Rattle.np_model.specs.declared.admin_policy.AdminPeer.TheVariants as admin
 use Rattle.np_model.specs.declared.network_policy.NetPeer.TheVariants as net

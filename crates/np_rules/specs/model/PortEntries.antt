@@ -3,7 +3,7 @@ use Rattle.std.specs.Prelude.{◌≡◌, ℕ, List, Bool, false, ◌&&◌, ◌==
 use Rattle.std.specs.List.{list_any}
 use Rattle.std.specs.Str.{bytes_eq}
 use Rattle.np_rules.specs.Types.{Address, NamedPort, NetPort, PortSpot, Proto}
-use Rattle.np_conns.specs.Conns.{same_proto}
+use Rattle.np_conns.specs.Prelude.{same_proto}
 use Rattle.np_model.specs.declared.admin_policy.AdminPort.{AdminPort}
 use Rattle.np_model.specs.declared.admin_policy.AdminPort.TheVariants as admin
 use Rattle.np_model.specs.declared.network_policy.NetPort.TheVariants as net

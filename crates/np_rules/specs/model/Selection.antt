@@ -1,7 +1,7 @@
 -- Which pods a policy is about.
 use Rattle.std.specs.Prelude.{Bool, ◌&&◌}
 use Rattle.std.specs.Str.{bytes_eq}
-use Rattle.np_labels.specs.Selectors.{meets_selector}
+use Rattle.np_labels.specs.Prelude.{meets_selector}
 use Rattle.np_model.specs.declared.admin_policy.Subject.{Subject}
 use Rattle.np_rules.specs.Types.{NetPolicy}
 use Rattle.np_rules.specs.model.Ends.{PodEnd}

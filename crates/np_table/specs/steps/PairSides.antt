@@ -1,10 +1,9 @@
 -- The sides that the code asks for a pair of workloads.
 use Rattle.std.specs.Prelude.{ℕ}
-use Rattle.np_fold.specs.Workloads.{folding_of}
-use Rattle.np_kinds.specs.Between.{destination_pod}
-use Rattle.np_kinds.specs.Kinds.{first_side}
+use Rattle.np_fold.specs.Prelude.{folding_of}
+use Rattle.np_kinds.specs.Prelude.{destination_pod, first_side}
 use Rattle.np_table.specs.Types.{Egress, EstateLists, Ingress, PairEnds}
-use Rattle.np_rules.specs.PodSides.{side_of}
+use Rattle.np_rules.specs.Prelude.{side_of}
 
 -- the sides of the pods that stand for two workloads
 abbrev pub ends_of : EstateLists → ℕ → ℕ → PairEnds

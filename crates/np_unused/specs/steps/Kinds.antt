@@ -1,8 +1,8 @@
 -- Pods that stand for their kinds.
 use Rattle.std.specs.Prelude.{◌≡◌, ◌≢◌, ℕ, ◌<◌, List, length, Bool, true, false, ◌||◌, ◌==◌, not, Some, slice_get, slice_index}
 use Rattle.np_unused.specs.Types.{EstateLists, KindPod}
-use Rattle.np_fold.specs.Workloads.{folding_of}
-use Rattle.np_kinds.specs.Between.{source_pod}
+use Rattle.np_fold.specs.Prelude.{folding_of}
+use Rattle.np_kinds.specs.Prelude.{source_pod}
 
 -- the kind of the workload of the pod at a place
 abbrev pub pod_kind : EstateLists → ℕ → ℕ

@@ -5,7 +5,7 @@ use Rattle.std.specs.Option.{option_and_then, option_map_or}
 use Rattle.std.specs.declared.alloc.Global.{Global}
 use Rattle.np_unused.specs.Types.{Flags, LayerRules, Mark, RuleId, Tier, UsedRules}
 use Rattle.np_unused.specs.declared.rule_ref.Tier.TheVariants as tier
-use Rattle.np_tiers.specs.Entries.{admin_place}
+use Rattle.np_tiers.specs.Prelude.{admin_place}
 use Rattle.np_tiers.specs.declared.mark.Mark.TheVariants.{Admin, Net, Isolated, Base, Free}
 
 -- ---- flags

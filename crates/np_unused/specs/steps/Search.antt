@@ -2,23 +2,16 @@
 use Rattle.std.specs.Prelude.{◌≡◌, ℕ, ◌<◌, List, Bool, true, ◌&&◌, ◌||◌, not, Some, slice_get}
 use Rattle.std.specs.List.{Contains}
 use Rattle.np_unused.specs.Types.{Decider, Direction, Egress, EstateLists, Family, Ingress, KindPod, Kinds, LayerRules, RuleRef, Search, Tier, UsedRules}
-use Rattle.np_conns.specs.Conns.{is_spot}
-use Rattle.np_model.specs.Families.{families_of}
-use Rattle.np_model.specs.Lawful.{IsLawful}
-use Rattle.np_explain.specs.Marks.{admin_rules, base_rules, net_rules}
+use Rattle.np_conns.specs.Prelude.{is_spot}
+use Rattle.np_model.specs.Prelude.{IsLawful, families_of}
+use Rattle.np_explain.specs.Prelude.{admin_rules, base_rules, net_rules}
 use Rattle.np_unused.specs.Rules.{rule_count_at}
 use Rattle.np_unused.specs.Used.{is_used, stands_in}
 use Rattle.np_unused.specs.steps.Kinds.{AreKindPods, is_asked}
 use Rattle.np_unused.specs.steps.Known.{are_known, is_known}
-use Rattle.np_reach.specs.Reach.{may_at, may_reach, reach_of}
-use Rattle.np_rules.specs.Deciders.{decider}
-use Rattle.np_rules.specs.model.Ends.{Contact, pod}
-use Rattle.np_rules.specs.EveryAddress.{is_address_spot}
-use Rattle.np_rules.specs.LayerRules.{NamesAdmin, NamesBase, NamesNet}
-use Rattle.np_rules.specs.Layers.{Pairwise}
-use Rattle.np_rules.specs.PodSides.{PodSide, near_pod, side_of, with_addresses, with_pod}
-use Rattle.np_rules.specs.model.Verdict.{pod_at}
-use Rattle.np_kinds.specs.Kinds.{first_ends}
+use Rattle.np_reach.specs.Prelude.{may_at, may_reach, reach_of}
+use Rattle.np_rules.specs.Prelude.{Contact, NamesAdmin, NamesBase, NamesNet, Pairwise, PodSide, decider, is_address_spot, near_pod, pod, pod_at, side_of, with_addresses, with_pod}
+use Rattle.np_kinds.specs.Prelude.{first_ends}
 
 -- ---- rules of one direction
 

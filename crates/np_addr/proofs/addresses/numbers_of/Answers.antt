@@ -2,7 +2,7 @@ use Rattle.std.proofs.Common.{◌≡◌, ◌++◌, IsPermutation, ap, subst, sym
 use Rattle.std.proofs.lemmas.List.{append-nil, at_drop_all}
 use Rattle.std.specs.List.{filter_map}
 use Rattle.std.proofs.lemmas.List.Sorted.{IsNonDecreasingBy-from_sort}
-use Rattle.np_addr.specs.Numbers.{number_in}
+use Rattle.np_addr.specs.Prelude.{number_in}
 use Rattle.np_addr.proofs.addresses.numbers_of.Goals as goal
 
 pub returns : goal.returns

@@ -1,6 +1,6 @@
 use Rattle.std.proofs.Common.{◌≡◌, ◌++◌, drop}
 use Rattle.std.specs.List.{filter_map}
-use Rattle.np_addr.specs.Numbers.{number_in}
+use Rattle.np_addr.specs.Prelude.{number_in}
 use Rattle.np_addr.proofs.addresses.numbers_of.Given as goal
 
 -- with the numbers that are still to come those of the whole list

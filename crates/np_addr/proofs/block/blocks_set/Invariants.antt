@@ -1,8 +1,6 @@
 use Rattle.std.proofs.Common.{◌≡◌, take}
 use Rattle.std.specs.List.{list_any}
-use Rattle.np_addr.specs.Addresses.{cidr_has}
-use Rattle.np_addr.specs.Blocks.{set_has}
-use Rattle.np_addr.specs.Types.{Address}
+use Rattle.np_addr.specs.Prelude.{Address, cidr_has, set_has}
 use Rattle.np_addr.proofs.block.blocks_set.Given as goal
 
 -- the sets so far have the addresses of the blocks so far

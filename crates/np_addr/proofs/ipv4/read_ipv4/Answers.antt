@@ -1,5 +1,5 @@
 use Rattle.std.proofs.Common.{sym, ◌∙◌}
-use Rattle.np_addr.specs.Ipv4Grammar.{ipv4_of}
+use Rattle.np_addr.specs.Prelude.{ipv4_of}
 use Rattle.np_addr.proofs.Ipv4Lemmas.{dotted_of-last}
 use Rattle.np_addr.proofs.ipv4.read_ipv4.Goals as goal
 

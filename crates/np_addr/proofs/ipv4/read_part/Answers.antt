@@ -1,5 +1,5 @@
 use Rattle.std.proofs.Common.{rules, sym, ◌∙◌}
-use Rattle.np_addr.specs.Ipv4Grammar.{part_of}
+use Rattle.np_addr.specs.Prelude.{part_of}
 use Rattle.np_addr.proofs.Ipv4Lemmas.{part_of-numeral}
 use Rattle.np_addr.proofs.ipv4.read_part.Goals as goal
 

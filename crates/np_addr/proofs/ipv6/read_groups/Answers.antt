@@ -1,5 +1,5 @@
 use Rattle.std.proofs.Common.{sym, ap, ◌∙◌, rules}
-use Rattle.np_addr.specs.Groups.{at_most_eight}
+use Rattle.np_addr.specs.Prelude.{at_most_eight}
 use Rattle.np_addr.proofs.SideLemmas.{next_group, no_group, kept, too_many}
 use Rattle.np_addr.proofs.ipv6.read_groups.Goals as goal
 

@@ -2,7 +2,7 @@ use Rattle.std.proofs.Common.{◌≡◌, ◌≤◌, length}
 use denote.Text.{Utf8}
 use denote.Shadow.{shadow}
 use Rattle.np_addr.specs.Ipv6Grammar.{groups_of}
-use Rattle.np_addr.specs.Pieces.{pieces}
+use Rattle.np_addr.specs.Prelude.{pieces}
 use Rattle.np_addr.proofs.SideLemmas.{behind}
 use Rattle.np_addr.proofs.ipv6.read_groups.Given as goal
 

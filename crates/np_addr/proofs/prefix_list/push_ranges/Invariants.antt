@@ -1,5 +1,5 @@
 use Rattle.std.proofs.Common.{◌≡◌, ◌++◌, take, flat_map}
-use Rattle.np_addr.specs.Prefixes.{range_prefixes}
+use Rattle.np_addr.specs.Prelude.{range_prefixes}
 use Rattle.np_addr.proofs.prefix_list.push_ranges.Given as goal
 
 -- the blocks of the ranges so far

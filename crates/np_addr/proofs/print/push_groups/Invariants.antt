@@ -1,5 +1,5 @@
 use Rattle.std.proofs.Common.{◌≡◌, ◌++◌, take, flat_map, codes, string_bytes}
-use Rattle.np_addr.specs.AddressText.{group_text}
+use Rattle.np_addr.specs.Prelude.{group_text}
 use Rattle.np_addr.proofs.print.push_groups.Given as goal
 
 -- the groups so far, each behind a colon

@@ -1,5 +1,5 @@
 use Rattle.std.proofs.Common.{sym, ◌∙◌}
-use Rattle.np_addr.specs.AddressGrammar.{cidr_of}
+use Rattle.np_addr.specs.Prelude.{cidr_of}
 use Rattle.np_addr.proofs.CidrLemmas.{block_of-last}
 use Rattle.np_addr.proofs.read.find_cidr.Goals as goal
 

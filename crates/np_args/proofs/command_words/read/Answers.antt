@@ -3,8 +3,7 @@ use Rattle.std.proofs.lemmas.Result.{IfOk-weaker}
 use Rattle.clap.specs.Simple.{app_of}
 use Rattle.clap.specs.Values.{kind_of}
 use Rattle.np_args.proofs.AskedLemmas.{matched_job, unmatched_job}
-use Rattle.np_args.specs.Faults.{fault_of_kind}
-use Rattle.np_args.specs.Types.{Usage}
+use Rattle.np_args.specs.Prelude.{Usage, fault_of_kind}
 use Rattle.np_args.proofs.command_words.read.Goals as goal
 
 pub returns-in_err-matches-clause-usage : goal.returns-in_err-matches-clause-usage

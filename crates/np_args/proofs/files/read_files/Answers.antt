@@ -2,7 +2,7 @@ use Rattle.std.proofs.Common.{◌∙◌, ap, false, refl, sym, true}
 use Rattle.clap.specs.Matches.{found_of}
 use Rattle.clap.specs.Walk.{rows_of}
 use Rattle.np_args.proofs.AskedLemmas.{files_found, names_found}
-use Rattle.np_args.specs.Arguments.{are_files}
+use Rattle.np_args.specs.Prelude.{are_files}
 use Rattle.np_args.proofs.files.read_files.Goals as goal
 
 pub returns-then-are_files-clause-files : goal.returns-then-are_files-clause-files

@@ -2,7 +2,7 @@ use Rattle.std.proofs.Common.{◌∙◌, Option, ap, Bor, option_and_then, optio
 use Rattle.std.proofs.lemmas.Result.{IfOk-weaker}
 use Rattle.clap.specs.Matches.{found_of}
 use Rattle.np_args.proofs.AskedLemmas.{value_in-found}
-use Rattle.np_args.specs.Values.{Text, end_of}
+use Rattle.np_args.specs.Prelude.{Text, end_of}
 use Rattle.np_args.proofs.found.end_in.Goals as goal
 
 pub returns-in_err-word-clause-usage : goal.returns-in_err-word-clause-usage

@@ -6,9 +6,7 @@ use Rattle.std.specs.Map.{lookup}
 use Rattle.std.specs.Str.{bytes_eq}
 use Rattle.std.specs.declared.alloc.Global.{Global}
 use Rattle.np_args.proofs.words.read_words.Goals as goal
-use Rattle.np_args.specs.CommandLines.{asked_by, jobs}
-use Rattle.np_args.specs.Values.{Text}
-use Rattle.np_args.specs.Types.{Job}
+use Rattle.np_args.specs.Prelude.{Job, Text, asked_by, jobs}
 
 other : (text name : Text) → text ≢ name → bytes_eq text name ≡ false
 other text name differ = false_from_ne_true (bytes_eq text name) (λ same. differ ((bytes_eq-Decides text name).0 same))

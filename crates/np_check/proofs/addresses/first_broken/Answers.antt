@@ -1,8 +1,7 @@
 use Rattle.std.proofs.Common.{sym, ap, ◌∙◌, arith}
 use Rattle.np_check.proofs.BrokenLemmas.{first_broken-rows}
 use Rattle.np_check.proofs.PairLemmas.{found_at, none_left}
-use Rattle.np_check.specs.Firsts.{first_of}
-use Rattle.np_check.specs.steps.Broken.{broken_in}
+use Rattle.np_check.specs.Prelude.{broken_in, first_of}
 use Rattle.np_check.proofs.addresses.first_broken.Goals as goal
 
 pub returns-then-is_some : goal.returns-then-is_some

@@ -1,6 +1,5 @@
 use Rattle.std.proofs.Common.{◌≡◌, drop}
-use Rattle.np_check.specs.Firsts.{first_of}
-use Rattle.np_check.specs.steps.Broken.{broken_in}
+use Rattle.np_check.specs.Prelude.{broken_in, first_of}
 use Rattle.np_check.proofs.addresses.first_broken.Given as goal
 
 -- the first in the rows that are left is the first in all

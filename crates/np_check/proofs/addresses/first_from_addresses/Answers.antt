@@ -1,11 +1,9 @@
 use Rattle.std.proofs.Common.{ℕ, List, get_or, refl, sym, ap, subst, ◌∙◌}
-use Rattle.np_check.specs.Types.{Address, At, EstateLists, First, Second, Work}
-use Rattle.np_kinds.specs.Between.{IsWorkload}
+use Rattle.np_check.specs.Prelude.{Address, At, EstateLists, First, Second, Work, addresses_of, counterexample_between, first_of}
+use Rattle.np_kinds.specs.Prelude.{IsWorkload}
 use Rattle.std.proofs.lemmas.List.{take_all}
 use Rattle.np_check.proofs.AddressLemmas.{no_works, one_work_more}
 use Rattle.np_check.proofs.NoneLemmas.{none_of}
-use Rattle.np_check.specs.Counterexamples.{addresses_of, counterexample_between}
-use Rattle.np_check.specs.Firsts.{first_of}
 use Rattle.np_check.proofs.addresses.first_from_addresses.Goals as goal
 
 pub returns-then-is_empty-clause-counterexample : goal.returns-then-is_empty-clause-counterexample

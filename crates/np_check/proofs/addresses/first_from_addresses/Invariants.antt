@@ -1,7 +1,5 @@
 use Rattle.std.proofs.Common.{◌≡◌, take}
-use Rattle.np_check.specs.Counterexamples.{addresses_of, counterexample_between}
-use Rattle.np_check.specs.Firsts.{first_of}
-use Rattle.np_check.specs.Types.{At, Work}
+use Rattle.np_check.specs.Prelude.{At, Work, addresses_of, counterexample_between, first_of}
 use Rattle.np_check.proofs.addresses.first_from_addresses.Given as goal
 
 -- what is kept is the first to the workloads so far

@@ -1,5 +1,5 @@
 use Rattle.std.proofs.Common.{◌≡◌, drop}
-use Rattle.np_check.specs.steps.Broken.{first_number}
+use Rattle.np_check.specs.Prelude.{first_number}
 use Rattle.np_check.proofs.addresses.first_point.Given as goal
 
 -- the first in the ranges that are left is the first in all

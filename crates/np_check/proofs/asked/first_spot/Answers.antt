@@ -1,5 +1,5 @@
 use Rattle.np_check.proofs.SpotLemmas.{first_of_three}
-use Rattle.np_check.specs.Firsts.{first_spot}
+use Rattle.np_check.specs.Prelude.{first_spot}
 use Rattle.np_check.proofs.asked.first_spot.Goals as goal
 
 pub returns : goal.returns

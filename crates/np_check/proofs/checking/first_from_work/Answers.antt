@@ -2,9 +2,7 @@ use Rattle.std.proofs.Common.{◌≡◌, Option, sym, ap, ◌∙◌}
 use Rattle.std.specs.Option.{option_or}
 use Rattle.std.proofs.lemmas.Result.{IfOk-weaker}
 use Rattle.np_check.proofs.PairLemmas.{from-work, none_or, some_or}
-use Rattle.np_check.specs.Counterexamples.{addresses_of, counterexample_between, counterexample_from}
-use Rattle.np_check.specs.Firsts.{first_of}
-use Rattle.np_check.specs.Types.{At, Counterexample, EstateLists, Work}
+use Rattle.np_check.specs.Prelude.{At, Counterexample, EstateLists, Work, addresses_of, counterexample_between, counterexample_from, first_of}
 use Rattle.np_check.proofs.checking.first_from_work.Goals as goal
 
 pub returns-then-is_some-clause-counterexample : goal.returns-then-is_some-clause-counterexample

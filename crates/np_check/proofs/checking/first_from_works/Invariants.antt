@@ -1,8 +1,5 @@
 use Rattle.std.proofs.Common.{◌≡◌, drop}
-use Rattle.np_check.specs.Counterexamples.{counterexample_from}
-use Rattle.np_check.specs.Firsts.{first_of}
-use Rattle.np_check.specs.steps.Pairs.{AreSettled}
-use Rattle.np_check.specs.Types.{Work}
+use Rattle.np_check.specs.Prelude.{AreSettled, Work, counterexample_from, first_of}
 use Rattle.np_check.proofs.checking.first_from_works.Given as goal
 
 -- the first from those that are left is the first from all

@@ -1,11 +1,10 @@
 use Rattle.std.proofs.Common.{◌≡◌, false, get_or, sym, ap, ◌∙◌}
 use Rattle.np_addr.specs.declared.address.Family.TheVariants.{Four}
 use Rattle.np_check.proofs.PairLemmas.{between-alone, between-apart, found_at, none_left}
-use Rattle.np_check.specs.Counterexamples.{counterexample_in}
-use Rattle.np_check.specs.Types.{EstateLists, Work}
-use Rattle.np_model.specs.Families.{families_of}
-use Rattle.np_fold.specs.Workloads.{Folding, folding_of}
-use Rattle.np_kinds.specs.Between.{is_alone}
+use Rattle.np_check.specs.Prelude.{EstateLists, Work, counterexample_in}
+use Rattle.np_model.specs.Prelude.{families_of}
+use Rattle.np_fold.specs.Prelude.{Folding, folding_of}
+use Rattle.np_kinds.specs.Prelude.{is_alone}
 use Rattle.np_check.proofs.pairs.first_between.Goals as goal
 
 pub returns-then-is_alone-clause-counterexample : goal.returns-then-is_alone-clause-counterexample

@@ -1,7 +1,5 @@
 use Rattle.std.proofs.Common.{◌≡◌, drop}
-use Rattle.np_check.specs.Counterexamples.{counterexample_in}
-use Rattle.np_check.specs.Firsts.{first_of}
-use Rattle.np_check.specs.Types.{Work}
+use Rattle.np_check.specs.Prelude.{Work, counterexample_in, first_of}
 use Rattle.np_check.proofs.pairs.first_between.Given as goal
 
 -- the first in the families that are left is the first in all

@@ -1,7 +1,6 @@
 use Rattle.std.proofs.Common.{sym, ap, ◌∙◌, option_map}
 use Rattle.np_check.proofs.PairLemmas.{in_family}
-use Rattle.np_check.specs.Counterexamples.{counterexample_at}
-use Rattle.np_check.specs.Types.{Work}
+use Rattle.np_check.specs.Prelude.{Work, counterexample_at}
 use Rattle.np_check.proofs.pairs.first_in.Goals as goal
 
 pub returns-in_default-clause-counterexample : goal.returns-in_default-clause-counterexample

@@ -1,10 +1,8 @@
 use Rattle.std.proofs.Common.{◌≡◌, ◌==◌, ◌&&◌, if◌then◌else◌, ℕ, true, refl, sym, ap, subst, ◌∙◌, slice_index}
 use Rattle.np_check.proofs.PairLemmas.{none_denied, none_of_is, settled-more}
-use Rattle.np_check.specs.Counterexamples.{counterexample_between}
-use Rattle.np_check.specs.steps.Pairs.{has_pair, kind_of}
-use Rattle.np_check.specs.Types.{Work}
-use Rattle.np_model.specs.Lawful.{IsLawful}
-use Rattle.np_fold.specs.Workloads.{Folding, folding_of}
+use Rattle.np_check.specs.Prelude.{Work, counterexample_between, has_pair, kind_of}
+use Rattle.np_model.specs.Prelude.{IsLawful}
+use Rattle.np_fold.specs.Prelude.{Folding, folding_of}
 use Rattle.np_kinds.proofs.KindNumbers.{kind-there}
 use Rattle.np_check.proofs.pairs.first_to_work.Goals as goal
 use Rattle.np_check.proofs.pairs.first_to_work.Goals.{then-is_none+then-source-destination+in_ok-insert, else-is_none}

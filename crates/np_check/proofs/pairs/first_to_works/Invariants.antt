@@ -1,8 +1,5 @@
 use Rattle.std.proofs.Common.{◌≡◌, drop}
-use Rattle.np_check.specs.Counterexamples.{counterexample_between}
-use Rattle.np_check.specs.Firsts.{first_of}
-use Rattle.np_check.specs.steps.Pairs.{AreSettled}
-use Rattle.np_check.specs.Types.{Work}
+use Rattle.np_check.specs.Prelude.{AreSettled, Work, counterexample_between, first_of}
 use Rattle.np_check.proofs.pairs.first_to_works.Given as goal
 
 -- the first to those that are left is the first to all

@@ -2,11 +2,9 @@ use Rattle.std.proofs.Common.{Result, Err, map, refl, subst, sym}
 use Rattle.std.proofs.lemmas.Result.{err_from_is_err_and}
 use Rattle.np_cli.proofs.SampleLemmas.{countable}
 use Rattle.np_command.proofs.WroteLemmas.{Wrote-refused}
-use Rattle.np_frame.specs.Words.{objects_of}
-use Rattle.np_cli.specs.Answers.{reply_in}
-use Rattle.np_command.specs.Prints.{Wrote}
-use Rattle.np_command.specs.Sinks.{sunk}
-use Rattle.np_cli.specs.Types.{EstateLists, Fault, NoMemory}
+use Rattle.np_frame.specs.Prelude.{objects_of}
+use Rattle.np_cli.specs.Prelude.{EstateLists, Fault, NoMemory, reply_in}
+use Rattle.np_command.specs.Prelude.{Wrote, sunk}
 use Rattle.np_cli.proofs.run.answer.Goals as goal
 
 pub returns-in_err-folded-clause-answers : goal.returns-in_err-folded-clause-answers

@@ -1,5 +1,5 @@
 use Rattle.std.proofs.Common.{refl}
-use Rattle.np_command.specs.Sinks.{sunk}
+use Rattle.np_command.specs.Prelude.{sunk}
 use Rattle.np_command_check.proofs.FoundLemmas.{wrote-unfound}
 use Rattle.np_command_check.proofs.report.check_file.Goals as goal
 

@@ -1,8 +1,7 @@
 use Rattle.std.proofs.Common.{refl}
 use Rattle.std.proofs.lemmas.Result.{err_from_is_err_and}
 use Rattle.np_command.proofs.SinkLemmas.{TookLess-kept}
-use Rattle.np_command.specs.Prints.{text_in}
-use Rattle.np_command.specs.Sinks.{sunk}
+use Rattle.np_command.specs.Prelude.{sunk, text_in}
 use Rattle.np_command_evaluate.proofs.EvaluateLemmas.{wrote-unknown}
 use Rattle.np_command_evaluate.proofs.report.evaluate.Goals as goal
 use Rattle.np_command_evaluate.specs.Report.{evaluate_reply}

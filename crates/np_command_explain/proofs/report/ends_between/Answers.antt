@@ -1,8 +1,8 @@
 use Rattle.std.proofs.Common.{subst, sym}
 use Rattle.np_command_explain.proofs.ExplainLemmas.{asked-pods, ends-far}
 use Rattle.np_command_explain.proofs.report.ends_between.Goals as goal
-use Rattle.np_command_explain.specs.steps.Explaining.{HasPods}
-use Rattle.np_fold.specs.Workloads.{Folding}
+use Rattle.np_command_explain.specs.Prelude.{HasPods}
+use Rattle.np_fold.specs.Prelude.{Folding}
 
 pub destination_end-requires : goal.destination_end-requires
 destination_end-requires c =

@@ -1,10 +1,9 @@
 use Rattle.std.proofs.Common.{refl}
 use Rattle.std.proofs.lemmas.Result.{err_from_is_err_and}
 use Rattle.np_command.proofs.SinkLemmas.{TookLess-kept}
-use Rattle.np_command.specs.Prints.{text_in}
-use Rattle.np_command.specs.Sinks.{sunk}
+use Rattle.np_command.specs.Prelude.{sunk, text_in}
 use Rattle.np_command_explain.proofs.report.explain.Goals as goal
-use Rattle.np_command_explain.specs.Report.{explain_reply}
+use Rattle.np_command_explain.specs.Prelude.{explain_reply}
 
 pub returns-in_err-from-clause-wrote : goal.returns-in_err-from-clause-wrote
 returns-in_err-from-clause-wrote g c =

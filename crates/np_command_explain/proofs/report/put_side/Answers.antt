@@ -4,9 +4,7 @@ use Rattle.np_command.proofs.PuttingLemmas.{HasLeft-put, flat_map-next, flat_map
 use Rattle.np_command.proofs.LeftLemmas.{HasLeft, HasLeft-fault, HasLeft-memory, HasLeft-next}
 use Rattle.np_command_explain.proofs.ShownLemmas.{left-side}
 use Rattle.np_command_explain.proofs.report.put_side.Goals as goal
-use Rattle.np_command_explain.specs.Report.{part_line}
-use Rattle.np_command_explain.specs.steps.Explaining.{parts_at}
-use Rattle.np_command_explain.specs.Types.{Part}
+use Rattle.np_command_explain.specs.Prelude.{Part, part_line, parts_at}
 
 pub returns-in_err-put : goal.returns-in_err-put
 returns-in_err-put g c =

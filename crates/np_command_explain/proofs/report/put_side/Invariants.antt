@@ -1,8 +1,7 @@
 use Rattle.std.proofs.Common.{◌++◌, drop, flat_map}
 use Rattle.np_command.proofs.LeftLemmas.{HasLeft}
 use Rattle.np_command_explain.proofs.report.put_side.Given as goal
-use Rattle.np_command_explain.specs.Report.{part_line, side_text}
-use Rattle.np_command_explain.specs.steps.Explaining.{parts_at}
+use Rattle.np_command_explain.specs.Prelude.{part_line, parts_at, side_text}
 
 -- what is held and the lines of the parts that are left are what is left of the text
 abbrev pub invariant-loop-part : goal.invariant-loop-part

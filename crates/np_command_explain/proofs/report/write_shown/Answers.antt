@@ -4,7 +4,7 @@ use Rattle.np_command.proofs.PuttingLemmas.{HasLeft-call, HasLeft-call_fault, fl
 use Rattle.np_command.proofs.LeftLemmas.{HasLeft, HasLeft-finish, HasLeft-finish_fault}
 use Rattle.np_command_explain.proofs.ShownLemmas.{left-all}
 use Rattle.np_command_explain.proofs.report.write_shown.Goals as goal
-use Rattle.np_command_explain.specs.Report.{shown_text}
+use Rattle.np_command_explain.specs.Prelude.{shown_text}
 use Rattle.np_io.proofs.TakenLemmas.{TookLess-none}
 
 pub returns-in_err-gathered : goal.returns-in_err-gathered

@@ -1,7 +1,7 @@
 use Rattle.std.proofs.Common.{drop, flat_map}
 use Rattle.np_command.proofs.LeftLemmas.{HasLeft}
 use Rattle.np_command_explain.proofs.report.write_shown.Given as goal
-use Rattle.np_command_explain.specs.Report.{explain_text, shown_text}
+use Rattle.np_command_explain.specs.Prelude.{explain_text, shown_text}
 
 -- what is held and the explanations that are left are what is left of the text
 abbrev pub invariant-loop-one : goal.invariant-loop-one

@@ -2,7 +2,7 @@ use Rattle.std.proofs.Common.{◌≤◌, drop, false, flat_map}
 use Rattle.np_command.proofs.LeftLemmas.{HasLeft}
 use Rattle.np_command_exposure.proofs.report.write_sides.Given as goal
 use Rattle.np_command_exposure.specs.Report.{side_rows}
-use Rattle.np_report.specs.Forms.{text_to_come}
+use Rattle.np_report.specs.Prelude.{text_to_come}
 
 -- what is held and the rows of the sides that are left are what is left of the text
 abbrev pub invariant-loop-side : goal.invariant-loop-side

@@ -3,7 +3,7 @@ use Rattle.np_command_flatten.proofs.FlatLemmas.{estate_of-flat, policies-apart,
 use Rattle.np_command_flatten.proofs.LawfulReads.{estate-lawful}
 use Rattle.np_command_flatten.proofs.ListLemmas.{json_of-list_line, json_of-list_text}
 use Rattle.np_command_flatten.proofs.laws.flat_policies_are_read_again.Goals as goal
-use Rattle.np_flatten.specs.Flat.{flat_policies}
+use Rattle.np_flatten.specs.Prelude.{flat_policies}
 
 pub returns : goal.returns
 returns c = record {

@@ -1,5 +1,5 @@
 use Rattle.np_reading.proofs.LawfulPolicies.{net_policies-ascend}
-use Rattle.np_command_flatten.specs.Estates.{net_items}
+use Rattle.np_command_flatten.specs.Prelude.{net_items}
 use Rattle.np_manifests.specs.Lists.{list_line, list_text}
 use Rattle.np_command_flatten.proofs.EstateLemmas.{estate_of-list, policies-once}
 use Rattle.np_command_flatten.proofs.ItemLemmas.{items_of-list}

@@ -2,7 +2,7 @@ use Rattle.std.proofs.Common.{◌≤◌}
 use Rattle.np_command_flatten.proofs.FlattenLemmas.{to_come}
 use Rattle.np_command.proofs.LeftLemmas.{HasLeft}
 use Rattle.np_command_flatten.proofs.report.write_policies.Given as goal
-use Rattle.np_command_flatten.specs.Report.{flatten_text}
+use Rattle.np_command_flatten.specs.Prelude.{flatten_text}
 
 -- what is held and the policies that are still to come are what is left of the text
 abbrev pub invariant-loop-group : goal.invariant-loop-group

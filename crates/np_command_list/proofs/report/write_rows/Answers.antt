@@ -4,7 +4,7 @@ use Rattle.np_command.proofs.LeftLemmas.{HasLeft-all, HasLeft-fault, HasLeft-fin
 use Rattle.np_command.proofs.StepLemmas.{due_all, none_given}
 use Rattle.np_command_list.proofs.RowsLemmas.{HasLeft-end, HasLeft-row}
 use Rattle.np_command_list.proofs.report.write_rows.Goals as goal
-use Rattle.np_fold.specs.Workloads.{folding_of}
+use Rattle.np_fold.specs.Prelude.{folding_of}
 use Rattle.np_io.proofs.TakenLemmas.{TookLess-none}
 
 pub returns-in_err-rows-clause-written : goal.returns-in_err-rows-clause-written

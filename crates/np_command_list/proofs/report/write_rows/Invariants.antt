@@ -1,11 +1,10 @@
 use Rattle.std.proofs.Common.{◌+◌, ◌≤◌, false, length}
 use Rattle.np_command.proofs.LeftLemmas.{HasLeft}
-use Rattle.np_command.specs.TableSteps.{list_steps}
+use Rattle.np_command.specs.Prelude.{list_steps}
 use Rattle.np_command_list.proofs.report.write_rows.Given as goal
-use Rattle.np_fold.specs.Workloads.{folding_of}
-use Rattle.np_report.specs.RowText.{names_of}
-use Rattle.np_report.specs.TableText.{rows_to_come}
-use Rattle.np_routes.specs.ClusterTable.{cluster_rows, cluster_table}
+use Rattle.np_fold.specs.Prelude.{folding_of}
+use Rattle.np_report.specs.Prelude.{names_of, rows_to_come}
+use Rattle.np_routes.specs.Prelude.{cluster_rows, cluster_table}
 
 -- what is held and the rows that are still to come are what is left of the text, and what is due for them is what may still be counted
 abbrev pub invariant-loop-gathered : goal.invariant-loop-gathered

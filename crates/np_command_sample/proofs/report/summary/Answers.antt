@@ -1,7 +1,7 @@
 use Rattle.std.proofs.Common.{ap, codes, ◌∙◌}
 use Rattle.np_command_sample.proofs.CountLemmas.{count_lines-joined}
 use Rattle.np_command_sample.proofs.report.summary.Goals as goal
-use Rattle.np_command_sample.specs.Report.{count_line}
+use Rattle.np_command_sample.specs.Prelude.{count_line}
 
 pub returns : goal.returns
 returns c =

@@ -1,7 +1,7 @@
 use Rattle.std.proofs.Common.{◌≡◌, [], ◌∷◌, ap, arith, sym, ◌∙◌}
 use Rattle.np_command_sample.proofs.CountLemmas.{counted-more, counted-none, few-more}
 use Rattle.np_command_sample.proofs.report.tally_of.Goals as goal
-use Rattle.np_command_sample.specs.Report.{counted}
+use Rattle.np_command_sample.specs.Prelude.{counted}
 use Rattle.np_command.proofs.StepLemmas.{none_given}
 
 pub loop-rows-preserved : goal.loop-rows-preserved

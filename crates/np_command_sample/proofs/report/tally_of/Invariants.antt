@@ -1,10 +1,10 @@
 use Rattle.std.proofs.Common.{◌≡◌, ◌+◌, ◌≤◌, length}
 use Rattle.np_command_sample.proofs.report.tally_of.Given as goal
-use Rattle.np_command_sample.specs.Report.{counted, counts_of}
-use Rattle.np_report.specs.Tallied.{row_count}
-use Rattle.np_routes.specs.ClusterTable.{cluster_rows, cluster_table}
+use Rattle.np_command_sample.specs.Prelude.{counted, counts_of}
+use Rattle.np_report.specs.Prelude.{row_count}
+use Rattle.np_routes.specs.Prelude.{cluster_rows, cluster_table}
 use Rattle.std.specs.Prelude.{None}
-use Rattle.np_command.specs.TableSteps.{list_steps}
+use Rattle.np_command.specs.Prelude.{list_steps}
 
 -- what was counted and the rows that are still to come are all rows, and what is due for them is what may still be counted
 abbrev pub invariant-loop-rows : goal.invariant-loop-rows

@@ -1,6 +1,6 @@
 use Rattle.std.proofs.Common.{◌≡◌, ◌++◌, codes, string_bytes, take}
 use Rattle.std.specs.List.{flat_map}
-use Rattle.np_conns.specs.ConnsText.{run_text}
+use Rattle.np_conns.specs.Prelude.{run_text}
 use Rattle.np_conns.proofs.print.push_runs.Given as goal
 
 abbrev pub invariant-loop-run : goal.invariant-loop-run

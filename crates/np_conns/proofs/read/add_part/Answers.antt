@@ -1,8 +1,7 @@
 use Rattle.std.proofs.Common.{◌≡◌, ◌||◌, ◌∷◌, ◌⊎◌, ap, ◌∙◌, lit<}
 use Rattle.std.proofs.lemmas.Result.{err_from_is_err_and}
 use Rattle.std.proofs.lemmas.Str.Pattern.{strip_prefix_char}
-use Rattle.np_conns.specs.Conns.{has_spot}
-use Rattle.np_conns.specs.Reading.{Part, text_of_part}
+use Rattle.np_conns.specs.Prelude.{Part, has_spot, text_of_part}
 use Rattle.np_conns.proofs.ReadLemmas.{without_space}
 use Rattle.np_conns.proofs.read.add_part.Goals as goal
 use Rattle.np_conns.proofs.read.add_part.Goals.{After-unwrap_or}

@@ -1,4 +1,4 @@
-use Rattle.np_conns.specs.Spots.{equal_by_spots}
+use Rattle.np_conns.specs.Prelude.{equal_by_spots}
 use Rattle.np_conns.proofs.read.read_conns.Goals as goal
 
 pub returns-then-eq-clause-again : goal.returns-then-eq-clause-again

@@ -4,8 +4,7 @@ use Rattle.std.proofs.lemmas.Iterator.Splits.{YieldsList-from_str_split}
 use Rattle.std.proofs.lemmas.List.{length_push}
 use Rattle.std.proofs.lemmas.Result.{err_from_is_err_and}
 use Rattle.std.specs.List.{join_by, AllByRecursion}
-use Rattle.np_conns.specs.Conns.{has_spot}
-use Rattle.np_conns.specs.Reading.{Part, IsPart, text_of_part, in_part}
+use Rattle.np_conns.specs.Prelude.{IsPart, Part, has_spot, in_part, text_of_part}
 use Rattle.np_conns.proofs.ReadLemmas.{all_at, few_pieces, one_more, part_at, parts_done}
 use Rattle.np_conns.proofs.read.read_parts.Goals as goal
 use Rattle.np_conns.proofs.read.read_parts.Goals.{In-Some}

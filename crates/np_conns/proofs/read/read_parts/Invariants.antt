@@ -1,8 +1,6 @@
 use Rattle.std.proofs.Common.{◌≡◌, List, ◌∷◌, length, take, codes}
 use Rattle.std.specs.List.{join_by, AllByRecursion}
-use Rattle.np_conns.specs.Conns.{has_spot, IsConns}
-use Rattle.np_conns.specs.Reading.{Part, IsPart, text_of_part, in_parts}
-use Rattle.np_conns.specs.Types.{PortSpot}
+use Rattle.np_conns.specs.Prelude.{IsConns, IsPart, Part, PortSpot, has_spot, in_parts, text_of_part}
 use Rattle.np_conns.proofs.read.read_parts.Given as goal
 
 abbrev pub invariant-loop-piece : goal.invariant-loop-piece

@@ -1,8 +1,6 @@
 use Rattle.std.proofs.Common.{◌≡◌, decimal, ap, ◌∙◌, arith}
 use Rattle.std.proofs.lemmas.Grind.{common_steps}
-use Rattle.np_conns.specs.Types.{Range}
-use Rattle.np_conns.specs.Conns.{IsRun}
-use Rattle.np_conns.specs.ConnsText.{run_text}
+use Rattle.np_conns.specs.Prelude.{IsRun, Range, run_text}
 use Rattle.np_conns.proofs.SplitLemmas.{run_text-ends}
 use Rattle.np_conns.proofs.read.read_run.Goals as goal
 use Rattle.np_conns.proofs.read.read_run.Goals.{After-unwrap_or}

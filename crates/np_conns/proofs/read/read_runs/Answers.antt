@@ -4,10 +4,7 @@ use Rattle.std.proofs.lemmas.Iterator.Splits.{YieldsList-from_str_split}
 use Rattle.std.proofs.lemmas.List.{length_push}
 use Rattle.std.proofs.lemmas.List.Elements.{All-push}
 use Rattle.std.specs.List.{join_by, AllByRecursion}
-use Rattle.np_conns.specs.Types.{Range}
-use Rattle.np_conns.specs.Conns.{IsRun}
-use Rattle.np_conns.specs.ConnsText.{run_text}
-use Rattle.np_conns.specs.Reading.{in_runs}
+use Rattle.np_conns.specs.Prelude.{IsRun, Range, in_runs, run_text}
 use Rattle.np_conns.proofs.ReadLemmas.{all_at, not_both, one_more_taken, run_at, runs_done}
 use Rattle.np_conns.proofs.read.read_runs.Goals as goal
 use Rattle.np_conns.proofs.read.read_runs.Goals.{In-Some}

@@ -1,8 +1,6 @@
 use Rattle.std.proofs.Common.{◌≡◌, ℕ, ◌≤◌, List, ◌∷◌, length, take, codes}
 use Rattle.std.specs.List.{All, join_by, AllByRecursion}
-use Rattle.np_conns.specs.Types.{Range}
-use Rattle.np_conns.specs.Conns.{IsRun}
-use Rattle.np_conns.specs.ConnsText.{run_text}
+use Rattle.np_conns.specs.Prelude.{IsRun, Range, run_text}
 use Rattle.np_conns.proofs.read.read_runs.Given as goal
 
 abbrev pub invariant-loop-piece : goal.invariant-loop-piece

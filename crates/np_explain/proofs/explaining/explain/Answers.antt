@@ -2,9 +2,7 @@ use Rattle.std.proofs.Common.{◌≡◌, rules}
 use Rattle.std.proofs.lemmas.Result.{IfOk-weaker}
 use Rattle.np_explain.proofs.RightPartsLemmas.{right_is_made}
 use Rattle.np_explain.proofs.explaining.explain.Goals as goal
-use Rattle.np_explain.specs.Parts.{AreRightParts}
-use Rattle.np_explain.specs.RightParts.{parts_of}
-use Rattle.np_explain.specs.Sides.{decider_between}
+use Rattle.np_explain.specs.Prelude.{AreRightParts, decider_between, parts_of}
 
 pub returns-in-Pod-clause-list : goal.returns-in-Pod-clause-list
 returns-in-Pod-clause-list g c =

@@ -1,7 +1,7 @@
 use Rattle.std.proofs.lemmas.List.Elements.{All-rest}
 use Rattle.np_explain.proofs.PartLemmas.{parts_more}
 use Rattle.np_explain.proofs.explaining.named_parts.Goals as goal
-use Rattle.np_explain.specs.Marks.{IsMarkOf}
+use Rattle.np_explain.specs.Prelude.{IsMarkOf}
 
 pub loop-entry-preserved : goal.loop-entry-preserved
 loop-entry-preserved c = record {

@@ -1,6 +1,6 @@
 use Rattle.std.proofs.Common.{◌≡◌, ◌++◌, All, map}
 use Rattle.np_explain.proofs.explaining.named_parts.Given as goal
-use Rattle.np_explain.specs.Marks.{IsMarkOf, named_part}
+use Rattle.np_explain.specs.Prelude.{IsMarkOf, named_part}
 
 -- the parts made so far and those that will be made of the others are all of them
 abbrev pub invariant-loop-entry : goal.invariant-loop-entry

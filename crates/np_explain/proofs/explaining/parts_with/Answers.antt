@@ -4,14 +4,8 @@ use Rattle.std.specs.List.Sorted.{IsNonDecreasingBy, IsPermutation}
 use Rattle.np_explain.proofs.PartLemmas.{entry_marks, right_parts}
 use Rattle.np_explain.proofs.WalkLemmas.{says_of}
 use Rattle.np_explain.proofs.explaining.parts_with.Goals as goal
-use Rattle.np_explain.specs.Marks.{IsMarkOf, named_part}
-use Rattle.np_explain.specs.Order.{first_number}
-use Rattle.np_explain.specs.Parts.{AreRightParts}
-use Rattle.np_explain.specs.Sides.{with_end}
-use Rattle.np_explain.specs.Types.{Part}
-use Rattle.np_rules.specs.Deciders.{decider}
-use Rattle.np_rules.specs.PodSides.{PodSide, near_pod}
-use Rattle.np_rules.specs.model.Ends.{pod}
+use Rattle.np_explain.specs.Prelude.{AreRightParts, IsMarkOf, Part, first_number, named_part, with_end}
+use Rattle.np_rules.specs.Prelude.{PodSide, decider, near_pod, pod}
 
 pub of-requires-clause-says : goal.of-requires-clause-says
 of-requires-clause-says g c = says_of c.args.rules.now _ c.in_ok-layer.layer c.in_ok-layer.ensures.layer

@@ -1,7 +1,6 @@
 use Rattle.std.proofs.Common.{◌≡◌, take}
-use Rattle.np_conns.specs.Conns.{IsConns, has_spot}
-use Rattle.np_explain.specs.Types.{PortSpot}
-use Rattle.np_explain.specs.Explanations.{some_allows}
+use Rattle.np_conns.specs.Prelude.{IsConns, has_spot}
+use Rattle.np_explain.specs.Prelude.{PortSpot, some_allows}
 use Rattle.np_explain.proofs.explanation.allowed.Given as goal
 
 -- what the parts so far allow

@@ -1,8 +1,7 @@
 use Rattle.std.proofs.Common.{List, ◌&&◌, ap₂, subst, sym, ◌∙◌}
 use Rattle.np_explain.proofs.ExplanationLemmas.{explanation-made, explanation-right}
 use Rattle.np_explain.proofs.explanation.explain_sides.Goals as goal
-use Rattle.np_explain.specs.Explanations.{IsRightFor, some_allows}
-use Rattle.np_explain.specs.Types.{Part}
+use Rattle.np_explain.specs.Prelude.{IsRightFor, Part, some_allows}
 
 pub returns-clause-made : goal.returns-clause-made
 returns-clause-made g c =

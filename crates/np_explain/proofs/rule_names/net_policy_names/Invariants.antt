@@ -1,5 +1,5 @@
 use Rattle.std.proofs.Common.{◌≡◌, map, take}
-use Rattle.np_explain.specs.Marks.{policy_name_at}
+use Rattle.np_explain.specs.Prelude.{policy_name_at}
 use Rattle.np_explain.proofs.rule_names.net_policy_names.Given as goal
 
 abbrev pub invariant-loop-place : goal.invariant-loop-place

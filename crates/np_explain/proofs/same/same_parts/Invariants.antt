@@ -1,5 +1,5 @@
 use Rattle.std.proofs.Common.{◌≡◌, length}
-use Rattle.np_explain.specs.Explanations.{same_parts}
+use Rattle.np_explain.specs.Prelude.{same_parts}
 use Rattle.np_explain.proofs.same.same_parts.Given as goal
 
 -- the rests of the lists are equal where the lists are

@@ -1,5 +1,5 @@
 use Rattle.std.proofs.Common.{◌≡◌, map, take}
-use Rattle.np_exposure.specs.Choices.{choices_of}
+use Rattle.np_exposure.specs.Prelude.{choices_of}
 use Rattle.np_exposure.proofs.choices.all_choices.Given as goal
 
 abbrev pub invariant-loop-label : goal.invariant-loop-label

@@ -1,5 +1,5 @@
 use Rattle.std.proofs.Common.{◌≡◌, map, take}
-use Rattle.np_exposure.specs.steps.States.{narrowed_at}
+use Rattle.np_exposure.specs.Prelude.{narrowed_at}
 use Rattle.np_exposure.proofs.choices.narrowed.Given as goal
 
 abbrev pub invariant-loop-choices : goal.invariant-loop-choices

@@ -1,7 +1,7 @@
 use Rattle.std.proofs.Common.{refl}
 use Rattle.np_exposure.proofs.BeginLemmas.{walked-rows_of}
 use Rattle.np_exposure.proofs.LeftLemmas.{walked-list}
-use Rattle.np_rules.specs.PodSides.{side_of}
+use Rattle.np_rules.specs.Prelude.{side_of}
 use Rattle.np_exposure.proofs.exposures.exposure.Goals as goal
 
 pub returns-clause-rows : goal.returns-clause-rows

@@ -2,12 +2,8 @@ use Rattle.std.proofs.Common.{◌≡◌, List, ap, ◌∙◌, map, subst, sym, t
 use Rattle.std.proofs.lemmas.Result.{IfOk-weaker}
 use Rattle.np_exposure.proofs.BeginLemmas.{are_at-first}
 use Rattle.np_exposure.proofs.FirstLemmas.{IsState-first}
-use Rattle.np_exposure.specs.Choices.{Choices, choices_at_first, choices_of, labels_of}
-use Rattle.np_exposure.specs.Mentions.{each_once}
-use Rattle.np_exposure.specs.Types.{SidedRequirement}
-use Rattle.np_exposure.specs.steps.States.{IsState, are_at}
-use Rattle.np_exposure.specs.steps.Walks.{AreWalked}
-use Rattle.np_rules.specs.PodSides.{PodSide}
+use Rattle.np_exposure.specs.Prelude.{AreWalked, Choices, IsState, SidedRequirement, are_at, choices_at_first, choices_of, each_once, labels_of}
+use Rattle.np_rules.specs.Prelude.{PodSide}
 use Rattle.np_exposure.proofs.exposures.rows_of_mentions.Goals as goal
 
 pub rows_of_labels-requires : goal.rows_of_labels-requires

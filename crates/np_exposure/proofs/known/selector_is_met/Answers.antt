@@ -1,6 +1,6 @@
 use Rattle.np_exposure.proofs.SettledLemmas.{all-next}
-use Rattle.np_exposure.specs.Strangers.{labels_at}
-use Rattle.np_labels.specs.Selectors.{meets_requirement}
+use Rattle.np_exposure.specs.Prelude.{labels_at}
+use Rattle.np_labels.specs.Prelude.{meets_requirement}
 use Rattle.np_exposure.proofs.known.selector_is_met.Goals as goal
 
 pub loop-requirement-preserved : goal.loop-requirement-preserved

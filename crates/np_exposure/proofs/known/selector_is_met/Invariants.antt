@@ -1,8 +1,7 @@
 use Rattle.std.proofs.Common.{take}
 use Rattle.std.specs.List.{list_all}
-use Rattle.np_exposure.specs.Strangers.{labels_at}
-use Rattle.np_exposure.specs.steps.Settled.{IsSettled}
-use Rattle.np_labels.specs.Selectors.{meets_requirement}
+use Rattle.np_exposure.specs.Prelude.{IsSettled, labels_at}
+use Rattle.np_labels.specs.Prelude.{meets_requirement}
 use Rattle.np_exposure.proofs.known.selector_is_met.Given as goal
 
 -- whether the labels meet the requirements so far

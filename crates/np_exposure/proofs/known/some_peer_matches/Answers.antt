@@ -1,6 +1,5 @@
 use Rattle.np_exposure.proofs.SettledLemmas.{any-next}
-use Rattle.np_rules.specs.model.Ends.{pod, stranger_end}
-use Rattle.np_rules.specs.model.Peers.{net_peer_matches}
+use Rattle.np_rules.specs.Prelude.{net_peer_matches, pod, stranger_end}
 use Rattle.np_exposure.proofs.known.some_peer_matches.Goals as goal
 
 pub loop-peer-preserved : goal.loop-peer-preserved

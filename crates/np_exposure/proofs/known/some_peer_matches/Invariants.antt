@@ -1,8 +1,7 @@
 use Rattle.std.proofs.Common.{take}
 use Rattle.std.specs.List.{list_any}
-use Rattle.np_exposure.specs.steps.Settled.{IsSettled}
-use Rattle.np_rules.specs.model.Ends.{pod, stranger_end}
-use Rattle.np_rules.specs.model.Peers.{net_peer_matches}
+use Rattle.np_exposure.specs.Prelude.{IsSettled}
+use Rattle.np_rules.specs.Prelude.{net_peer_matches, pod, stranger_end}
 use Rattle.np_exposure.proofs.known.some_peer_matches.Given as goal
 
 -- whether some of the peers so far matches

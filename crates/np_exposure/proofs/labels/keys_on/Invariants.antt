@@ -2,8 +2,7 @@ use Rattle.std.proofs.Common.{◌≡◌, drop, filter, fold, map}
 use Rattle.std.specs.BTreeSet.{insert_key}
 use Rattle.std.specs.Cmp.Lexicographic.{slice_cmp}
 use Rattle.std.specs.Ordering.{nat_cmp}
-use Rattle.np_exposure.specs.Mentions.{same_side}
-use Rattle.np_exposure.specs.Weight.{keys_on}
+use Rattle.np_exposure.specs.Prelude.{keys_on, same_side}
 use Rattle.np_exposure.proofs.labels.keys_on.Given as goal
 
 -- with the keys of the requirements that are left they are all

@@ -2,7 +2,7 @@ use Rattle.std.proofs.Common.{◌≡◌, drop, filter, flat_map, fold}
 use Rattle.std.specs.BTreeSet.{insert_key}
 use Rattle.std.specs.Cmp.Lexicographic.{slice_cmp}
 use Rattle.std.specs.Ordering.{nat_cmp}
-use Rattle.np_exposure.specs.Weight.{looks_at, values_at}
+use Rattle.np_exposure.specs.Prelude.{looks_at, values_at}
 use Rattle.np_exposure.proofs.labels.values_at.Given as goal
 
 -- with the values of the requirements that are left they are all

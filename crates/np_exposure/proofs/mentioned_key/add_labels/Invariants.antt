@@ -1,5 +1,5 @@
 use Rattle.std.proofs.Common.{◌≡◌, ◌++◌, map, take}
-use Rattle.np_exposure.specs.Choices.{label_at}
+use Rattle.np_exposure.specs.Prelude.{label_at}
 use Rattle.np_exposure.proofs.mentioned_key.add_labels.Given as goal
 
 abbrev pub invariant-loop-key : goal.invariant-loop-key

@@ -1,5 +1,5 @@
 use Rattle.std.proofs.Common.{◌≡◌, ◌++◌, flat_map, take}
-use Rattle.np_exposure.specs.Mentions.{of_admin_peer}
+use Rattle.np_exposure.specs.Prelude.{of_admin_peer}
 use Rattle.np_exposure.proofs.mentions.add_admin_peers.Given as goal
 
 abbrev pub invariant-loop-peer : goal.invariant-loop-peer

@@ -1,6 +1,6 @@
 use Rattle.std.proofs.Common.{◌≡◌, ◌++◌, flat_map, take}
 use Rattle.np_exposure.proofs.MentionLemmas.{of_admin_policy}
-use Rattle.np_rules.specs.model.Ends.{pod_end}
+use Rattle.np_rules.specs.Prelude.{pod_end}
 use Rattle.np_exposure.proofs.mentions.add_admin_policies.Given as goal
 
 abbrev pub invariant-loop-policy : goal.invariant-loop-policy

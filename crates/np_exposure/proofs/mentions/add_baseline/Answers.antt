@@ -1,5 +1,5 @@
 use Rattle.np_exposure.proofs.MentionLemmas.{base_mentions}
-use Rattle.np_rules.specs.model.Ends.{pod_end}
+use Rattle.np_rules.specs.Prelude.{pod_end}
 use Rattle.np_exposure.proofs.mentions.add_baseline.Goals as goal
 
 pub returns-in-Some : goal.returns-in-Some

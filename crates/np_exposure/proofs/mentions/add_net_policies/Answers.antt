@@ -1,7 +1,7 @@
 use Rattle.std.proofs.Common.{arith}
 use Rattle.std.proofs.lemmas.Grind.{common_steps}
 use Rattle.np_exposure.proofs.MentionLemmas.{net_mentions}
-use Rattle.np_rules.specs.model.Ends.{pod_end}
+use Rattle.np_rules.specs.Prelude.{pod_end}
 use Rattle.np_exposure.proofs.mentions.add_net_policies.Goals as goal
 
 pub returns : goal.returns

@@ -1,5 +1,5 @@
 use Rattle.std.proofs.Common.{◌≡◌, ◌++◌, flat_map, take}
-use Rattle.np_exposure.specs.Mentions.{of_net_rule}
+use Rattle.np_exposure.specs.Prelude.{of_net_rule}
 use Rattle.np_exposure.proofs.mentions.add_net_rules.Given as goal
 
 abbrev pub invariant-loop-rule : goal.invariant-loop-rule

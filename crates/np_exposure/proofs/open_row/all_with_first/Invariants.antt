@@ -1,5 +1,5 @@
 use Rattle.std.proofs.Common.{◌≡◌, map}
-use Rattle.np_exposure.specs.Tree.{with_first}
+use Rattle.np_exposure.specs.Prelude.{with_first}
 use Rattle.np_exposure.proofs.open_row.all_with_first.Given as goal
 
 abbrev pub invariant-loop-row : goal.invariant-loop-row

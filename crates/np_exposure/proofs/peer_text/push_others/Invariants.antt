@@ -1,5 +1,5 @@
 use Rattle.std.proofs.Common.{◌≡◌, ◌++◌, codes, flat_map, string_bytes, take}
-use Rattle.np_exposure.specs.PeerText.{requirement_text}
+use Rattle.np_exposure.specs.Prelude.{requirement_text}
 use Rattle.np_exposure.proofs.peer_text.push_others.Given as goal
 
 abbrev pub invariant-loop-asked : goal.invariant-loop-asked

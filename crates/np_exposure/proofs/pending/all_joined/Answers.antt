@@ -1,7 +1,6 @@
 use Rattle.std.proofs.Common.{List, subst, sym}
 use Rattle.np_exposure.proofs.FillLemmas.{Fills-push}
-use Rattle.np_exposure.specs.Types.{Pending}
-use Rattle.np_exposure.specs.steps.Walks.{Fills}
+use Rattle.np_exposure.specs.Prelude.{Fills, Pending}
 use Rattle.np_exposure.proofs.pending.all_joined.Goals as goal
 
 pub loop-case-preserved : goal.loop-case-preserved

@@ -1,6 +1,5 @@
 use Rattle.std.proofs.Common.{List, vec_len}
-use Rattle.np_exposure.specs.Types.{ExposureRow}
-use Rattle.np_exposure.specs.steps.Walks.{Fills}
+use Rattle.np_exposure.specs.Prelude.{ExposureRow, Fills}
 use Rattle.np_exposure.proofs.pending.all_joined.Given as goal
 
 -- what those that wait make of the rows, all make of the last

@@ -1,5 +1,5 @@
 use Rattle.std.proofs.Common.{◌≡◌}
-use Rattle.np_exposure.specs.Mentions.{each_once}
+use Rattle.np_exposure.specs.Prelude.{each_once}
 use Rattle.np_exposure.proofs.requirements.each_once.Given as goal
 
 abbrev pub invariant-loop-asked : goal.invariant-loop-asked

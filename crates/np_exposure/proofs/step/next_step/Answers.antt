@@ -1,7 +1,7 @@
 use Rattle.std.proofs.Common.{ap, ◌∙◌, true, false}
 use Rattle.std.proofs.lemmas.Result.{IfOk-weaker}
 use Rattle.np_exposure.proofs.StateLemmas.{alone-step, fork-states-by, fork-step}
-use Rattle.np_exposure.specs.steps.States.{can_be, narrowed}
+use Rattle.np_exposure.specs.Prelude.{can_be, narrowed}
 use Rattle.np_exposure.proofs.step.next_step.Goals as goal
 
 pub returns-then-not-can_meet-can_miss-clause-step : goal.returns-then-not-can_meet-can_miss-clause-step

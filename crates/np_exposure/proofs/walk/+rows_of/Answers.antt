@@ -3,9 +3,7 @@ use Rattle.std.proofs.lemmas.Result.{IfOk-weaker}
 use Rattle.np_exposure.proofs.DecidedLemmas.{aside-at, filled-none, filled-still, step-at, still-at, still-short}
 use Rattle.np_exposure.proofs.SettledLemmas.{aside-stands, left-stands}
 use Rattle.np_exposure.proofs.WalkLemmas.{filled-alone, filled-joined, walked-leaf}
-use Rattle.np_exposure.specs.steps.Settled.{StandForAll}
-use Rattle.np_exposure.specs.steps.States.{are_at}
-use Rattle.np_exposure.specs.steps.Walks.{AreWalked}
+use Rattle.np_exposure.specs.Prelude.{AreWalked, StandForAll, are_at}
 use Rattle.np_exposure.proofs.walk.+rows_of.Goals as goal
 
 pub loop-first-init : goal.loop-first-init

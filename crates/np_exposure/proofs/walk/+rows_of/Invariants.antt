@@ -1,8 +1,6 @@
 use Rattle.std.proofs.Common.{◌≤◌, length, IsTrue}
 use Rattle.np_exposure.proofs.WalkLemmas.{IsFilled}
-use Rattle.np_exposure.specs.steps.Settled.{StandForAll}
-use Rattle.np_exposure.specs.steps.States.{IsState, are_at}
-use Rattle.np_exposure.specs.steps.Walks.{AreWalked}
+use Rattle.np_exposure.specs.Prelude.{AreWalked, IsState, StandForAll, are_at}
 use Rattle.np_exposure.proofs.walk.+rows_of.Given as goal
 
 -- what those that wait make of the rows of the requirements that are left, are the rows of all

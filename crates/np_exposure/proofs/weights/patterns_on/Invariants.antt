@@ -1,5 +1,5 @@
 use Rattle.std.proofs.Common.{◌≡◌, ◌-◌, ◌^◌, map, min, take}
-use Rattle.np_exposure.specs.Weight.{patterns_at, product}
+use Rattle.np_exposure.specs.Prelude.{patterns_at, product}
 use Rattle.np_exposure.proofs.weights.patterns_on.Given as goal
 
 -- so many patterns do the keys so far have

@@ -1,5 +1,5 @@
 use Rattle.std.proofs.Common.{◌≡◌, ◌++◌, flat_map, take}
-use Rattle.np_exposure.specs.Choices.{first_label}
+use Rattle.np_exposure.specs.Prelude.{first_label}
 use Rattle.np_exposure.proofs.witness.with_choices.Given as goal
 
 abbrev pub invariant-loop-choices : goal.invariant-loop-choices

@@ -1,6 +1,6 @@
 use Rattle.std.proofs.Common.{◌≡◌, ◌++◌, take}
 use Rattle.np_flatten.proofs.address_rules.add_rules_of_addresses.Given as goal
-use Rattle.np_flatten.specs.Flat.{rules_of_addresses}
+use Rattle.np_flatten.specs.Prelude.{rules_of_addresses}
 
 -- the rules have those of the ranges so far
 abbrev pub invariant-loop-row : goal.invariant-loop-row

@@ -1,5 +1,5 @@
 use Rattle.std.proofs.Common.{◌≡◌, [], map}
-use Rattle.np_flatten.specs.Types.{Block}
+use Rattle.np_flatten.specs.Prelude.{Block}
 use Rattle.np_flatten.proofs.address_rules.blocks_of_span.Given as goal
 
 -- the blocks so far

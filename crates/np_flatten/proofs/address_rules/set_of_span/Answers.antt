@@ -1,9 +1,8 @@
 use Rattle.std.proofs.Common.{List, ℕ, [], ◌∷◌, ◌-◌, ◌^◌, sym, ap, ◌∙◌}
-use Rattle.np_addr.specs.Blocks.{AddressRanges}
-use Rattle.np_flatten.specs.Types.{Range}
+use Rattle.np_addr.specs.Prelude.{AddressRanges}
+use Rattle.np_flatten.specs.Prelude.{Range, ranges_of_span}
 use Rattle.np_flatten.proofs.ReceiverFacts.{no-ranges}
 use Rattle.np_flatten.proofs.address_rules.set_of_span.Goals as goal
-use Rattle.np_flatten.specs.Flat.{ranges_of_span}
 
 pub returns-in_ok-nothing-in-Four : goal.returns-in_ok-nothing-in-Four
 returns-in_ok-nothing-in-Four c =

@@ -1,7 +1,7 @@
 use Rattle.std.proofs.Common.{◌≡◌, ◌≤◌, drop, length}
 use Rattle.std.specs.Cmp.Lexicographic.{pointwise}
 use Rattle.np_flatten.proofs.differ.are_same_rows.Given as goal
-use Rattle.np_flatten.specs.Faults.{are_same_row}
+use Rattle.np_flatten.specs.Prelude.{are_same_row}
 
 -- the rows so far are the same, so that the others tell
 abbrev pub invariant-loop-place : goal.invariant-loop-place

@@ -1,10 +1,10 @@
 use Rattle.std.proofs.Common.{◌≡◌, ◌<◌, length, arith, sym, ap, ◌∙◌}
 use Rattle.np_classes.proofs.Lists.{any_place}
-use Rattle.np_fold.specs.Workloads.{Folding}
+use Rattle.np_fold.specs.Prelude.{Folding}
 use Rattle.np_flatten.proofs.DifferLemmas.{none_more}
 use Rattle.np_flatten.proofs.differ.differ_at_some.Goals as goal
-use Rattle.np_flatten.specs.Faults.{differ_at}
-use Rattle.np_kinds.specs.Between.{number_of_workloads}
+use Rattle.np_flatten.specs.Prelude.{differ_at}
+use Rattle.np_kinds.specs.Prelude.{number_of_workloads}
 
 pub returns-then-branch-clause-answer : goal.returns-then-branch-clause-answer
 returns-then-branch-clause-answer g c =

@@ -2,7 +2,7 @@ use Rattle.std.proofs.Common.{◌≡◌, ◌≤◌, false}
 use Rattle.std.specs.List.{list_any}
 use Rattle.np_classes.specs.Classes.{places}
 use Rattle.np_flatten.proofs.differ.differ_at_some.Given as goal
-use Rattle.np_flatten.specs.Faults.{differ_at}
+use Rattle.np_flatten.specs.Prelude.{differ_at}
 
 -- at none of the workloads so far do they differ
 abbrev pub invariant-loop-third : goal.invariant-loop-third

@@ -1,10 +1,10 @@
 use Rattle.std.proofs.Common.{List, ℕ, ap, ◌∙◌}
 use Rattle.np_fold.proofs.PartLemmas.{relevant-ascend}
-use Rattle.np_fold.specs.Workloads.{Folding, folding_of}
-use Rattle.np_rules.specs.model.Ends.{PodEnd, pod_end}
+use Rattle.np_fold.specs.Prelude.{Folding, folding_of}
+use Rattle.np_rules.specs.Prelude.{PodEnd, pod_end}
 use Rattle.np_flatten.proofs.GroupLemmas.{one_more}
 use Rattle.np_flatten.proofs.groups.seen_of_workloads.Goals as goal
-use Rattle.np_flatten.specs.steps.Seen.{seen, seen_at}
+use Rattle.np_flatten.specs.Prelude.{seen, seen_at}
 
 pub seen_of-requires : goal.seen_of-requires
 seen_of-requires c = relevant-ascend c.args.folded.now c.relevant-keys.result.now (c.relevant-keys.ensures ∙ ap (λ (folding : Folding). folding.relevant) c.workloads.ensures.value)

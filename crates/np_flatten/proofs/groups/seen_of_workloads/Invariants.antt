@@ -1,7 +1,7 @@
 use Rattle.std.proofs.Common.{◌≡◌, map}
 use Rattle.np_classes.specs.Classes.{places}
 use Rattle.np_flatten.proofs.groups.seen_of_workloads.Given as goal
-use Rattle.np_flatten.specs.steps.Seen.{seen_at}
+use Rattle.np_flatten.specs.Prelude.{seen_at}
 
 -- what is seen of the workloads so far
 abbrev pub invariant-loop-workload : goal.invariant-loop-workload

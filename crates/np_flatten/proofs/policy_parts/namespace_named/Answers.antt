@@ -1,6 +1,6 @@
 use Rattle.std.proofs.Common.{List, ℕ, [], ◌∷◌, ◌++◌, ap, ◌∙◌}
-use Rattle.np_labels.specs.Selectors.{label_requirement}
-use Rattle.np_flatten.specs.Types.{Requirement, Selector}
+use Rattle.np_labels.specs.Prelude.{label_requirement}
+use Rattle.np_flatten.specs.Prelude.{Requirement, Selector}
 use Rattle.np_flatten.proofs.policy_parts.namespace_named.Goals as goal
 
 pub returns : goal.returns

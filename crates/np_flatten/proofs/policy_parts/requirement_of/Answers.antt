@@ -1,10 +1,8 @@
 use Rattle.std.proofs.Common.{List, ℕ, [], ap, ◌∙◌}
 use Rattle.std.proofs.lemmas.Result.{IfOk-weaker}
-use Rattle.np_labels.specs.Labels.{value_of}
-use Rattle.np_labels.specs.Selectors.{requirement_of}
-use Rattle.np_flatten.specs.Types.{Absent}
+use Rattle.np_labels.specs.Prelude.{requirement_of, value_of}
+use Rattle.np_flatten.specs.Prelude.{Absent, requirement_at}
 use Rattle.np_flatten.proofs.policy_parts.requirement_of.Goals as goal
-use Rattle.np_flatten.specs.Selecting.{requirement_at}
 
 pub returns-in_ok-copy-in-None : goal.returns-in_ok-copy-in-None
 returns-in_ok-copy-in-None c =

@@ -1,6 +1,6 @@
 use Rattle.std.proofs.Common.{◌≡◌, map, take}
 use Rattle.np_flatten.proofs.policy_parts.selector_of.Given as goal
-use Rattle.np_flatten.specs.Selecting.{requirement_of_key}
+use Rattle.np_flatten.specs.Prelude.{requirement_of_key}
 
 -- what is asked of the keys so far
 abbrev pub invariant-loop-key : goal.invariant-loop-key

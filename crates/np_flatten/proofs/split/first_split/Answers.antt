@@ -1,9 +1,8 @@
 use Rattle.std.proofs.Common.{◌≡◌, length, arith, sym, ap, ◌∙◌}
-use Rattle.np_model.specs.Families.{families_of}
-use Rattle.np_flatten.specs.Types.{EstateLists}
+use Rattle.np_model.specs.Prelude.{families_of}
+use Rattle.np_flatten.specs.Prelude.{EstateLists, first_split_of}
 use Rattle.np_flatten.proofs.SplitLemmas.{found-first, none-left, none_split, rows-first}
 use Rattle.np_flatten.proofs.split.first_split.Goals as goal
-use Rattle.np_flatten.specs.steps.SplitRows.{first_split_of}
 
 pub returns-then-families-lt2-clause-found : goal.returns-then-families-lt2-clause-found
 returns-then-families-lt2-clause-found g c =

@@ -1,8 +1,7 @@
 use Rattle.std.proofs.Common.{◌≡◌, ◌≤◌, length}
 use Rattle.np_flatten.proofs.split.first_split.Given as goal
-use Rattle.np_flatten.specs.steps.SplitRows.{first_split_of}
-use Rattle.np_table.specs.Rows.{all_rows}
-use Rattle.np_table.specs.Table.{estate_table}
+use Rattle.np_flatten.specs.Prelude.{first_split_of}
+use Rattle.np_table.specs.Prelude.{all_rows, estate_table}
 
 -- the rows so far have no mark
 abbrev pub invariant-loop-rows : goal.invariant-loop-rows

@@ -1,16 +1,13 @@
 use Rattle.std.proofs.Common.{◌+◌, ℕ, List, Option, take, slice_index, sym, ap, subst, ◌∙◌, arith}
 use Rattle.std.proofs.lemmas.List.{take_more, take_all}
-use Rattle.np_model.specs.Lawful.{IsLawful}
-use Rattle.np_flatten.specs.Types.{EstateLists}
-use Rattle.np_fold.specs.Workloads.{Folding, folding_of}
+use Rattle.np_model.specs.Prelude.{IsLawful}
+use Rattle.np_flatten.specs.Prelude.{EstateLists, IsLeastUnlike, differ, first_with, with_number}
+use Rattle.np_fold.specs.Prelude.{Folding, folding_of}
 use Rattle.np_flatten.proofs.KindGroups.{unlike-first}
 use Rattle.np_flatten.proofs.LeastSteps.{least-more}
 use Rattle.np_flatten.proofs.UnlikeFacts.{first_by-in, first_by-is, item-in, number-in, numbers-count}
 use Rattle.np_flatten.proofs.unlike.first_unlike.Goals as goal
-use Rattle.np_flatten.specs.Faults.{differ}
-use Rattle.np_flatten.specs.steps.Least.{with_number}
-use Rattle.np_flatten.specs.steps.Unlike.{IsLeastUnlike, first_with}
-use Rattle.np_kinds.specs.Between.{number_of_workloads}
+use Rattle.np_kinds.specs.Prelude.{number_of_workloads}
 
 pub first_of_group-first-requires-clause-number : goal.first_of_group-first-requires-clause-number
 first_of_group-first-requires-clause-number g c =

@@ -1,6 +1,6 @@
 use Rattle.std.proofs.Common.{◌≤◌, take}
 use Rattle.np_flatten.proofs.unlike.first_unlike.Given as goal
-use Rattle.np_flatten.specs.steps.Unlike.{IsLeastUnlike}
+use Rattle.np_flatten.specs.Prelude.{IsLeastUnlike}
 
 -- what was found is the least among the workloads so far
 abbrev pub invariant-loop-workload : goal.invariant-loop-workload

@@ -1,5 +1,5 @@
 use Rattle.std.proofs.Common.{◌≡◌, ◌++◌, drop, flat_map}
-use Rattle.np_fold.specs.Blocks.{cidrs_of_rule}
+use Rattle.np_fold.specs.Prelude.{cidrs_of_rule}
 use Rattle.np_fold.proofs.blocks.add_rules.Given as goal
 
 -- with the blocks of those that are left they are all

@@ -1,5 +1,5 @@
 use Rattle.std.proofs.Common.{◌≡◌, map}
-use Rattle.np_fold.specs.steps.Folded.{block_at}
+use Rattle.np_fold.specs.Prelude.{block_at}
 use Rattle.np_fold.proofs.distinct_blocks.blocks_of.Given as goal
 
 -- the blocks so far are those of the starts so far

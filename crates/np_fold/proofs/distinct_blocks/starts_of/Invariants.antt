@@ -1,5 +1,5 @@
 use Rattle.std.proofs.Common.{take, map}
-use Rattle.np_fold.specs.steps.Folded.{HaveSame, block_at}
+use Rattle.np_fold.specs.Prelude.{HaveSame, block_at}
 use Rattle.np_fold.proofs.distinct_blocks.starts_of.Given as goal
 
 -- the starts so far are those of the blocks so far

@@ -1,7 +1,6 @@
 use Rattle.std.proofs.Common.{◌≡◌, Some, map, ◌∙◌}
 use Rattle.std.proofs.lemmas.Result.{IfOk-weaker}
-use Rattle.np_fold.specs.steps.Folded.{kind_at}
-use Rattle.np_fold.specs.Workloads.{first_pods, named_first_pods}
+use Rattle.np_fold.specs.Prelude.{first_pods, kind_at, named_first_pods}
 use Rattle.np_fold.proofs.FoldLemmas.{firsts-in, kinds-firsts, kinds-numbers, named-in}
 use Rattle.np_fold.proofs.kinds.kinds_of_workloads.Goals as goal
 

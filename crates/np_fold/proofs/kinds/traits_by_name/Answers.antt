@@ -1,7 +1,6 @@
 use Rattle.std.proofs.Common.{Some, map, ap, ◌∙◌}
-use Rattle.np_fold.specs.Traits.{traits_of, with_owner}
+use Rattle.np_fold.specs.Prelude.{Owner, traits_of, with_owner}
 use Rattle.np_fold.proofs.FoldLemmas.{traits-more}
-use Rattle.np_fold.specs.Types.{Owner}
 use Rattle.np_fold.proofs.kinds.traits_by_name.Goals as goal
 
 pub loop-one-preserved : goal.loop-one-preserved

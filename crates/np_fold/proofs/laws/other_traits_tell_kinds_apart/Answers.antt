@@ -1,5 +1,5 @@
 use Rattle.std.proofs.Common.{refl}
-use Rattle.np_fold.specs.Blocks.{cidrs_of_estate}
+use Rattle.np_fold.specs.Prelude.{cidrs_of_estate}
 use Rattle.np_fold.proofs.TraitLemmas.{traits-same_kind}
 use Rattle.np_fold.proofs.laws.other_traits_tell_kinds_apart.Goals as goal
 

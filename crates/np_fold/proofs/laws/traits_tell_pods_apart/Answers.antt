@@ -1,5 +1,5 @@
 use Rattle.std.proofs.Common.{refl}
-use Rattle.np_fold.specs.Blocks.{cidrs_of_estate}
+use Rattle.np_fold.specs.Prelude.{cidrs_of_estate}
 use Rattle.np_fold.proofs.TraitLemmas.{traits-alike}
 use Rattle.np_fold.proofs.laws.traits_tell_pods_apart.Goals as goal
 

@@ -2,11 +2,9 @@ use Rattle.std.proofs.Common.{◌≡◌, ◌≢◌, ◌<◌, ◌++◌, ◌∷◌
 use Rattle.std.proofs.lemmas.Iterator.Adapters.{YieldsList-from_vec}
 use Rattle.std.proofs.lemmas.Iterator.Consumers.{YieldsList-end, YieldsList-turn}
 use Rattle.std.specs.List.{zip}
-use Rattle.np_fold.specs.steps.Folded.{workload_of, workload_of_pair}
-use Rattle.np_fold.specs.Workloads.{Workload, workload_of_entry}
+use Rattle.np_fold.specs.Prelude.{Named, Workload, workload_of, workload_of_entry, workload_of_pair}
 use Rattle.np_fold.proofs.MemberLemmas.{entries-so_far, members-count, members-same, next-new, no-workloads, workloads-more}
 use Rattle.np_fold.proofs.members.members_by_name.Goals as goal
-use Rattle.np_fold.specs.Types.{Named}
 
 pub bounds-named-place : goal.bounds-named-place
 bounds-named-place c =

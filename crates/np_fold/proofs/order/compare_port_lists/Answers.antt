@@ -5,7 +5,7 @@ use Rattle.std.specs.Cmp.Lexicographic.{slice_cmp}
 use Rattle.std.specs.Ordering.{nat_cmp}
 use Rattle.np_fold.specs.Order as spec
 use Rattle.np_fold.proofs.order.compare_port_lists.Goals as goal
-use Rattle.np_fold.specs.Types.{NamedPort}
+use Rattle.np_fold.specs.Prelude.{NamedPort}
 
 -- where there is no difference, the lengths tell
 lengths-tell : (ports others : List NamedPort) (place : ℕ) → place ≤ length others → place ≤ length ports → length ports ≤ place →

@@ -1,7 +1,6 @@
 use Rattle.std.proofs.Common.{◌<◌, List, length, get_or, ap, ◌∙◌}
 use Rattle.std.proofs.lemmas.List.Elements.{All-get_or}
-use Rattle.np_fold.specs.Types.{Pod}
-use Rattle.np_fold.specs.Workloads.{owner_name_at}
+use Rattle.np_fold.specs.Prelude.{Pod, owner_name_at}
 use Rattle.np_fold.proofs.FoldLemmas.{one_more, owner_name-here}
 use Rattle.np_fold.proofs.owner_names.owner_names.Goals as goal
 

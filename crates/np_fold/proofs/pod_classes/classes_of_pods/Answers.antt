@@ -1,6 +1,6 @@
 use Rattle.std.proofs.Common.{◌≡◌, map, ◌∙◌}
 use Rattle.std.proofs.lemmas.Result.{IfOk-weaker}
-use Rattle.np_fold.specs.Traits.{traits_of}
+use Rattle.np_fold.specs.Prelude.{traits_of}
 use Rattle.np_fold.proofs.FoldLemmas.{classes-firsts, classes-numbers}
 use Rattle.np_fold.proofs.pod_classes.classes_of_pods.Goals as goal
 

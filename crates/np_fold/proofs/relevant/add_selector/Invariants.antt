@@ -1,5 +1,5 @@
 use Rattle.std.proofs.Common.{◌≡◌, drop, map}
-use Rattle.np_fold.specs.Keys.{with_keys}
+use Rattle.np_fold.specs.Prelude.{with_keys}
 use Rattle.np_fold.proofs.relevant.add_selector.Given as goal
 
 -- with the keys of the requirements that are left they are all

@@ -1,5 +1,5 @@
 use Rattle.std.proofs.Common.{◌≡◌, drop, flat_map}
-use Rattle.np_fold.specs.Keys.{keys_of_service, with_keys}
+use Rattle.np_fold.specs.Prelude.{keys_of_service, with_keys}
 use Rattle.np_fold.proofs.relevant.add_services.Given as goal
 
 -- with the keys of those that are left they are all

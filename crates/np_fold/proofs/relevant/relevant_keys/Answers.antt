@@ -3,8 +3,8 @@ use Rattle.std.proofs.lemmas.Result.{IfOk-weaker}
 use Rattle.std.specs.Cmp.Lexicographic.{slice_cmp}
 use Rattle.std.specs.List.Sorted.{IsStrictlySortedBy}
 use Rattle.std.specs.Ordering.{nat_cmp}
-use Rattle.np_fold.specs.Keys.{keys_of_estate, with_keys}
-use Rattle.np_labels.specs.Selectors.{is_listed}
+use Rattle.np_fold.specs.Prelude.{keys_of_estate, with_keys}
+use Rattle.np_labels.specs.Prelude.{is_listed}
 use Rattle.np_labels.proofs.Distinct.{distinct-sorted, is_listed-distinct}
 use Rattle.np_fold.proofs.relevant.relevant_keys.Goals as goal
 

@@ -1,6 +1,5 @@
 use Rattle.std.proofs.Common.{◌≡◌, ◌+◌, ◌++◌, ◌∷◌, [], Bool, cond, take, ap, append-nil, sym, ◌∙◌}
-use Rattle.np_fold.specs.Alike.{is_in}
-use Rattle.np_fold.specs.Traits.{blocks_of}
+use Rattle.np_fold.specs.Prelude.{blocks_of, is_in}
 use Rattle.np_fold.proofs.BlockLemmas.{places-more}
 use Rattle.np_fold.proofs.traits.blocks_of.Goals as goal
 use Rattle.np_fold.proofs.traits.blocks_of.Goals.{then-some_in+in_ok-push, else-some_in}

@@ -1,5 +1,5 @@
 use Rattle.std.proofs.Common.{◌≡◌, take}
-use Rattle.np_fold.specs.Traits.{blocks_of}
+use Rattle.np_fold.specs.Prelude.{blocks_of}
 use Rattle.np_fold.proofs.traits.blocks_of.Given as goal
 
 -- the places so far are those among the blocks so far

@@ -1,8 +1,8 @@
 use Rattle.std.proofs.Common.{◌≡◌, length, refl, ap, subst, ◌∙◌, inl, arith, rules}
 use Rattle.std.proofs.lemmas.List.{take_all}
 use Rattle.std.proofs.lemmas.Result.{err_from_is_err_and}
-use Rattle.np_io.specs.Source.{BeganNext}
-use Rattle.np_frame.specs.Sources.{HandedOut, total_size}
+use Rattle.np_io.specs.Prelude.{BeganNext}
+use Rattle.np_frame.specs.Prelude.{HandedOut, total_size}
 use Rattle.np_frame.proofs.SourcesLemmas.{AreTold-length, BeganFront-next, BeganNext-none, Began-next, HandedOut-more, HandedOut-none, bytes_of-more, total_size-more, RoseBy-more, told-next, Unread-next}
 use Rattle.np_frame.proofs.sources.read_all.Goals as goal
 

@@ -1,7 +1,7 @@
 use Rattle.std.proofs.Common.{◌≡◌, ◌+◌, ℕ, List, map, take, is_some}
 use Rattle.np_frame.proofs.SourcesLemmas.{RoseBy}
-use Rattle.np_io.specs.Source.{BeganNext}
-use Rattle.np_frame.specs.Sources.{AreTold, HandedOut, total_size}
+use Rattle.np_io.specs.Prelude.{BeganNext}
+use Rattle.np_frame.specs.Prelude.{AreTold, HandedOut, total_size}
 use Rattle.np_frame.specs.declared.sources.TheConstants.{SIZE_LIMIT}
 use Rattle.np_frame.proofs.sources.read_all.Given as goal
 

@@ -1,6 +1,6 @@
 use Rattle.std.proofs.Common.{◌≡◌, ◌+◌, map, drop}
 use Rattle.serde_json.specs.View.{view}
-use Rattle.np_items.specs.Inputs.{all_values, values_from}
+use Rattle.np_items.specs.Prelude.{all_values, values_from}
 use Rattle.np_items.proofs.ReadingLemmas.{after}
 use Rattle.np_items.proofs.inputs.all_values.Given as goal
 

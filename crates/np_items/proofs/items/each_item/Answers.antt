@@ -1,7 +1,7 @@
 use Rattle.std.proofs.Common.{rules, ◌≡◌, ◌+◌, ◌++◌, ◌∷◌, [], ◌∙◌, ap}
 use Rattle.std.proofs.lemmas.List.{length-append}
 use Rattle.std.proofs.lemmas.List.Elements.{All-append, All-cons, All-nil}
-use Rattle.np_items.specs.WellFormed.{IsWellItem}
+use Rattle.np_items.specs.Prelude.{IsWellItem}
 use Rattle.np_items.proofs.ItemLemmas.{after-next}
 use Rattle.np_items.proofs.items.each_item.Goals as goal
 

@@ -1,7 +1,6 @@
 use Rattle.std.proofs.Common.{◌≡◌, ◌+◌, map, drop, length, All}
 use Rattle.serde_json.specs.View.{view}
-use Rattle.np_items.specs.Items.{each_item}
-use Rattle.np_items.specs.WellFormed.{IsWellItem}
+use Rattle.np_items.specs.Prelude.{IsWellItem, each_item}
 use Rattle.np_items.proofs.ReadingLemmas.{after}
 use Rattle.np_items.proofs.items.each_item.Given as goal
 

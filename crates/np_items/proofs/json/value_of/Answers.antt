@@ -1,7 +1,7 @@
 use Rattle.std.proofs.Common.{◌≡◌, None, rules}
 use Rattle.std.proofs.lemmas.Bool.{both_ways}
 use Rattle.np_items.proofs.InputLemmas.{json_of-read, json_of-none}
-use Rattle.np_items.specs.Inputs.{json_of}
+use Rattle.np_items.specs.Prelude.{json_of}
 use Rattle.np_items.proofs.json.value_of.Goals as goal
 
 pub returns-in-Ok : goal.returns-in-Ok

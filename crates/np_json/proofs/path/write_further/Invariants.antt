@@ -1,7 +1,7 @@
 use Rattle.std.proofs.Common.{take}
 use Rattle.std.specs.Fmt.{HasWritten, IsPlainFormatter}
 use Rattle.std.specs.List.{flat_map}
-use Rattle.np_json.specs.Paths.{further_text}
+use Rattle.np_json.specs.Prelude.{further_text}
 use Rattle.np_json.proofs.path.write_further.Given as goal
 
 -- the steps so far are written

@@ -1,6 +1,6 @@
 use Rattle.std.proofs.Common.{◌≡◌, drop}
 use Rattle.serde_json.specs.View.{items_view}
-use Rattle.np_json.specs.Shapes.{each_item}
+use Rattle.np_json.specs.Prelude.{each_item}
 use Rattle.np_json.proofs.ShapeLemmas.{after}
 use Rattle.np_json.proofs.shape.each_item.Given as goal
 

@@ -1,5 +1,5 @@
 use Rattle.std.proofs.Common.{refl}
-use Rattle.np_fold.specs.Workloads.{folding_of}
+use Rattle.np_fold.specs.Prelude.{folding_of}
 use Rattle.np_kinds.proofs.first_pods.first_place.Goals as goal
 use Rattle.np_kinds.proofs.MemberLemmas.{members-some, members-within, source-member}
 

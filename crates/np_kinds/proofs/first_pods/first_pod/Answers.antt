@@ -1,5 +1,5 @@
 use Rattle.std.proofs.Common.{◌<◌, length, ap, ◌∙◌}
-use Rattle.np_kinds.specs.Types.{EstateLists}
+use Rattle.np_kinds.specs.Prelude.{EstateLists}
 use Rattle.np_kinds.proofs.MemberLemmas.{pod-first}
 use Rattle.np_kinds.proofs.first_pods.first_pod.Goals as goal
 

@@ -2,12 +2,11 @@ use Rattle.std.proofs.Common.{List, ℕ, [], ◌∷◌, ◌++◌, map, take, ap,
 use Rattle.std.specs.Prelude.{All}
 use Rattle.std.proofs.lemmas.List.{map-append, take_more}
 use Rattle.std.proofs.lemmas.List.Elements.{All-get_or}
-use Rattle.np_fold.specs.Workloads.{Folding}
-use Rattle.np_rules.specs.model.Ends.{PodEnd, pod_end}
+use Rattle.np_fold.specs.Prelude.{Folding}
+use Rattle.np_rules.specs.Prelude.{PodEnd, pod_end}
 use Rattle.np_kinds.proofs.KindNumbers.{firsts-workloads}
 use Rattle.np_kinds.proofs.kind_reach.first_pods.Goals as goal
-use Rattle.np_kinds.specs.Kinds.{first_end}
-use Rattle.np_kinds.specs.Between.{IsWorkload}
+use Rattle.np_kinds.specs.Prelude.{IsWorkload, first_end}
 
 pub first_pod-requires : goal.first_pod-requires
 first_pod-requires c =

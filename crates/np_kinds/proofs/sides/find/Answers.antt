@@ -2,10 +2,10 @@ use Rattle.std.proofs.Common.{◌<◌, ℕ, List, length, refl, ap, subst, sym, 
 use Rattle.std.specs.Prelude.{All}
 use Rattle.std.proofs.lemmas.List.Elements.{All-get_or}
 use Rattle.std.proofs.lemmas.Option.{slice_get_within}
-use Rattle.np_fold.specs.Workloads.{Folding, folding_of}
+use Rattle.np_fold.specs.Prelude.{Folding, folding_of}
 use Rattle.np_kinds.proofs.KindNumbers.{first-of_kind, firsts-workloads, kind-there}
 use Rattle.np_kinds.proofs.sides.find.Goals as goal
-use Rattle.np_kinds.specs.Between.{IsWorkload}
+use Rattle.np_kinds.specs.Prelude.{IsWorkload}
 
 pub kind_of-kind-requires : goal.kind_of-kind-requires
 kind_of-kind-requires c = rw c.workloads-workloads.ensures.value (kind-there c.args.folded.now (folding_of c.args.folded.now) c.args.workload refl c.requires.workload)

@@ -1,5 +1,5 @@
 use Rattle.std.proofs.Common.{◌≡◌, drop}
-use Rattle.np_labels.specs.Labels.{value_of}
+use Rattle.np_labels.specs.Prelude.{value_of}
 use Rattle.np_labels.proofs.labels.find_among_few.Given as goal
 
 -- no pair so far has the key

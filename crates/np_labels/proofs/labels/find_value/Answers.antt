@@ -3,7 +3,7 @@ use Rattle.std.proofs.lemmas.Fn.{always_returns_same}
 use Rattle.std.specs.Cmp.Lexicographic.{slice_cmp}
 use Rattle.std.specs.Ordering.{nat_cmp}
 use Rattle.np_labels.proofs.KeyHalves.{value-found, value-not_found}
-use Rattle.np_labels.specs.Types.{Pair}
+use Rattle.np_labels.specs.Prelude.{Pair}
 use Rattle.np_labels.proofs.labels.find_value.Goals as goal
 
 pub returns-in-Ok : goal.returns-in-Ok

@@ -1,5 +1,5 @@
 use Rattle.std.proofs.Common.{◌≡◌, map}
-use Rattle.np_labels.specs.Labels.{labels_of, pair_of}
+use Rattle.np_labels.specs.Prelude.{labels_of, pair_of}
 use Rattle.np_labels.proofs.labels.last_values.Given as goal
 
 -- the map has the labels of the pairs so far

@@ -2,7 +2,7 @@ use Rattle.std.proofs.Common.{◌≡◌, List, ℕ, Option, take}
 use Rattle.std.specs.Ordering.{nat_cmp}
 use Rattle.std.specs.Cmp.Lexicographic.{slice_cmp}
 use Rattle.std.specs.BTreeMap.{get}
-use Rattle.np_labels.specs.Demands.{admits_unless_free, allowed_at}
+use Rattle.np_labels.specs.Prelude.{admits_unless_free, allowed_at}
 use Rattle.np_labels.proofs.possibility.demands_of.Given as goal
 
 -- the demands are those of the requirements so far

@@ -3,7 +3,7 @@ use Rattle.std.specs.Ordering.{nat_cmp}
 use Rattle.std.specs.Cmp.Lexicographic.{slice_cmp}
 use Rattle.std.specs.List.Sorted.{IsStrictlySortedBy}
 use Rattle.std.specs.Map as map_of
-use Rattle.np_labels.specs.Labels.{keys_of}
+use Rattle.np_labels.specs.Prelude.{keys_of}
 use Rattle.np_labels.proofs.Settling.{IsInTurn}
 use Rattle.np_labels.proofs.possibility.settle.Given as goal
 

@@ -1,5 +1,5 @@
 use Rattle.std.proofs.Common.{◌≡◌, ◌∷◌}
-use Rattle.np_objects.specs.Statuses.{distinct, HaveSame}
+use Rattle.np_objects.specs.Prelude.{HaveSame, distinct}
 use Rattle.np_objects.proofs.distinct_addresses.distinct.Given as goal
 
 -- the addresses so far are kept, each once, and are known

@@ -1,7 +1,7 @@
 use Rattle.std.proofs.Common.{true, false, ◌∙◌, sym, subst}
 use Rattle.std.proofs.lemmas.Result.{on_ok_weaker}
 use Rattle.np_objects.proofs.AddressLemmas.{kept_with-added, HaveSame-more}
-use Rattle.np_objects.specs.Statuses.{HaveSame}
+use Rattle.np_objects.specs.Prelude.{HaveSame}
 use Rattle.np_objects.proofs.distinct_addresses.keep.Goals as goal
 
 pub returns-then-not-branch-clause-kept : goal.returns-then-not-branch-clause-kept

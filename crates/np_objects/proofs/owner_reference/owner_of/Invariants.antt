@@ -1,5 +1,5 @@
 use Rattle.std.proofs.Common.{◌≡◌}
-use Rattle.np_objects.specs.Owners.{owner_of}
+use Rattle.np_objects.specs.Prelude.{owner_of}
 use Rattle.np_objects.proofs.owner_reference.owner_of.Given as goal
 
 -- no reference so far names an owner

@@ -1,5 +1,5 @@
 use Rattle.std.proofs.Common.{◌≡◌, ◌<◌, ◌-◌, length}
-use Rattle.np_owners.specs.Chains.{chain, last_of, top}
+use Rattle.np_owners.specs.Prelude.{chain, last_of, top}
 use Rattle.np_owners.proofs.chains.climb.Given as goal
 
 -- the rest of the chain, from here on, has the same last place

@@ -1,6 +1,6 @@
 use Rattle.std.proofs.Common.{◌≡◌, ◌<◌, ◌-◌, length, nat_eq}
 use Rattle.std.specs.List.{list_any}
-use Rattle.np_owners.specs.Chains.{chain, owns_itself}
+use Rattle.np_owners.specs.Prelude.{chain, owns_itself}
 use Rattle.np_owners.proofs.chains.comes_back.Given as goal
 
 -- the place is among its owners if it is in the rest of the chain, from here on

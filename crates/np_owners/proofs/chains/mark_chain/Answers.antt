@@ -1,7 +1,7 @@
 use Rattle.std.proofs.Common.{rules, length, ◌+◌, ◌-◌, None, arith, sym, ◌∙◌}
 use Rattle.std.proofs.Math.Bool.{or-false}
 use Rattle.np_owners.proofs.Walks.{up_at, up_within, chain_none, none_over, mark_step}
-use Rattle.np_owners.specs.Chains.{is_marked}
+use Rattle.np_owners.specs.Prelude.{is_marked}
 use Rattle.np_owners.proofs.chains.mark_chain.Goals as goal
 
 pub returns-in_default : goal.returns-in_default

@@ -1,6 +1,6 @@
 use Rattle.std.proofs.Common.{◌≡◌, ◌<◌, ◌-◌, ◌||◌, ℕ, length, nat_eq}
 use Rattle.std.specs.List.{list_any}
-use Rattle.np_owners.specs.Chains.{chain, is_at_or_over, is_marked}
+use Rattle.np_owners.specs.Prelude.{chain, is_at_or_over, is_marked}
 use Rattle.np_owners.proofs.chains.mark_chain.Given as goal
 
 -- the marks so far and the rest of the chain, from here on, are those at first and the whole chain

@@ -1,7 +1,7 @@
 use Rattle.std.proofs.Common.{ℕ, List, Option, is_some, refl, sym, ap, ◌∙◌, arith}
 use Rattle.std.proofs.Math.Nat.{zero-add}
 use Rattle.std.proofs.lemmas.List.FromFn.{map-range_with_len_more}
-use Rattle.np_owners.specs.Chains.{up}
+use Rattle.np_owners.specs.Prelude.{up}
 use Rattle.np_owners.specs.MadePods as spec
 use Rattle.np_owners.proofs.MakerLemmas.{marks_long, item_within, mark_at, makes_pod_at}
 use Rattle.np_owners.proofs.makers.made_pods.Goals as goal

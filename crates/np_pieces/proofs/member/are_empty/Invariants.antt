@@ -1,5 +1,5 @@
 use Rattle.std.proofs.Common.{◌≡◌, ℕ, true, drop}
-use Rattle.np_pieces.specs.Pieces.{has_at}
+use Rattle.np_pieces.specs.Prelude.{has_at}
 use Rattle.np_pieces.proofs.member.are_empty.Given as goal
 
 -- what the pieces have, the pieces left have

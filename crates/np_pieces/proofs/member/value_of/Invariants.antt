@@ -1,5 +1,5 @@
 use Rattle.std.proofs.Common.{◌≡◌, drop}
-use Rattle.np_pieces.specs.Pieces.{value_at}
+use Rattle.np_pieces.specs.Prelude.{value_at}
 use Rattle.np_pieces.proofs.member.value_of.Given as goal
 
 -- the pieces left have the value of all of them

@@ -1,6 +1,6 @@
 use Rattle.std.proofs.Common.{◌≡◌}
 use Rattle.serde_json.specs.View.{members_view}
-use Rattle.np_policies.specs.Selectors.{have_other}
+use Rattle.np_policies.specs.Prelude.{have_other}
 use Rattle.np_policies.proofs.selector_shape.have_other.Given as goal
 
 -- no member so far is another

@@ -1,8 +1,7 @@
 use Rattle.std.proofs.Common.{◌≡◌, ℕ, ◌||◌, length, take}
 use Rattle.np_reach.proofs.SpokenLemmas.{from_on}
 use Rattle.np_reach.proofs.reach.mark.Given as goal
-use Rattle.np_reach.specs.Marks.{marks_at}
-use Rattle.np_reach.specs.Reach.{has_place}
+use Rattle.np_reach.specs.Prelude.{has_place, marks_at}
 
 -- the marks so far are in the row
 abbrev pub invariant-loop-number : goal.invariant-loop-number

@@ -1,7 +1,6 @@
 use Rattle.std.proofs.Common.{◌≡◌, ℕ, ◌||◌, length, take}
 use Rattle.np_reach.proofs.reach.mark_all.Given as goal
-use Rattle.np_reach.specs.Marks.{speaks_at}
-use Rattle.np_reach.specs.Reach.{has_place}
+use Rattle.np_reach.specs.Prelude.{has_place, speaks_at}
 
 -- the marks of the stretches so far are in the row
 abbrev pub invariant-loop-marks : goal.invariant-loop-marks

@@ -1,8 +1,7 @@
 use Rattle.std.proofs.Common.{◌≡◌, ℕ, ◌||◌, length, take}
 use Rattle.std.specs.List.{list_any}
 use Rattle.np_reach.proofs.reach.mark_chosen.Given as goal
-use Rattle.np_reach.specs.Marks.{speaks_at}
-use Rattle.np_reach.specs.Reach.{has_place}
+use Rattle.np_reach.specs.Prelude.{has_place, speaks_at}
 
 -- the marks of the policies so far are in the row
 abbrev pub invariant-loop-far : goal.invariant-loop-far

@@ -3,7 +3,7 @@ use Rattle.std.specs.List.{list_any}
 use Rattle.std.proofs.lemmas.List.{length-replicate}
 use Rattle.np_reach.proofs.SpokenLemmas.{row_is, twice_marked}
 use Rattle.np_reach.proofs.reach.row_of.Goals as goal
-use Rattle.np_reach.specs.Marks.{speaks_at}
+use Rattle.np_reach.specs.Prelude.{speaks_at}
 
 pub returns : goal.returns
 returns c =

@@ -6,9 +6,8 @@ use Rattle.np_base.proofs.Lists.{list_any-next}
 use Rattle.np_reach.proofs.SpokenLemmas.{last_chosen, none_chosen}
 use Rattle.np_reach.proofs.spoken.chosen_of.Goals as goal
 use Rattle.np_reach.proofs.spoken.chosen_of.Goals.{else-own-place, else-own-place-via-else-own-place, else-own-place-via-then-own-place+else-selects, then-own-place+then-selects+in_ok-push}
-use Rattle.np_reach.specs.Marks.{AreWithin, speaks_at}
-use Rattle.np_reach.specs.Types.{Marks}
-use Rattle.np_rules.specs.model.Ends.{pod_end}
+use Rattle.np_reach.specs.Prelude.{AreWithin, Marks, speaks_at}
+use Rattle.np_rules.specs.Prelude.{pod_end}
 
 pub loop-place-preserved : goal.loop-place-preserved
 loop-place-preserved g c =

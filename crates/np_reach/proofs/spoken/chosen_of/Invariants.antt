@@ -2,8 +2,8 @@ use Rattle.std.proofs.Common.{◌≡◌, ℕ, ◌&&◌, take}
 use Rattle.std.specs.Prelude.{All}
 use Rattle.std.specs.List.{list_any}
 use Rattle.np_reach.proofs.spoken.chosen_of.Given as goal
-use Rattle.np_reach.specs.Marks.{AreWithin, speaks_at}
-use Rattle.np_rules.specs.model.Ends.{pod_end}
+use Rattle.np_reach.specs.Prelude.{AreWithin, speaks_at}
+use Rattle.np_rules.specs.Prelude.{pod_end}
 
 -- what the policies so far that select the pod speak of
 abbrev pub invariant-loop-place : goal.invariant-loop-place

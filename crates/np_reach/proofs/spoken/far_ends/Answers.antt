@@ -1,14 +1,12 @@
 use Rattle.std.proofs.Common.{◌≡◌, ◌+◌, ◌++◌, Bor, List, Some, flat_map, slice_get, take, ap, subst, sym, ◌∙◌}
 use Rattle.std.proofs.lemmas.List.Elements.{All-get_or}
 use Rattle.std.proofs.lemmas.Option.{get_or_from_slice_get, slice_get-get_or, slice_get_within}
-use Rattle.np_reach.specs.Types.{Pod}
+use Rattle.np_reach.specs.Prelude.{AreOfOneNamespace, IsStretch, Pod}
 use Rattle.np_reach.proofs.SpokenLemmas.{marked_more, silent_more}
 use Rattle.np_reach.proofs.spoken.far_ends.Goals as goal
 use Rattle.np_reach.proofs.spoken.far_ends.Goals.{else-may_reach, then-may_reach+in_ok-pods+in_ok-push}
-use Rattle.np_reach.specs.Namespaces.{AreOfOneNamespace}
-use Rattle.np_reach.specs.Stretches.{IsStretch}
 use Rattle.np_rules.proofs.PlacesLemmas.{flat_map-next}
-use Rattle.np_rules.specs.model.Ends.{pod, pod_end}
+use Rattle.np_rules.specs.Prelude.{pod, pod_end}
 
 pub loop-stretch-preserved : goal.loop-stretch-preserved
 loop-stretch-preserved g c =

@@ -1,7 +1,7 @@
 use Rattle.std.proofs.Common.{flat_map, take}
 use Rattle.np_reach.proofs.spoken.far_ends.Given as goal
-use Rattle.np_reach.specs.Marks.{IsSpoken}
-use Rattle.np_rules.specs.model.Ends.{pod, pod_end}
+use Rattle.np_reach.specs.Prelude.{IsSpoken}
+use Rattle.np_rules.specs.Prelude.{pod, pod_end}
 
 -- what is said of the pods of the stretches so far
 abbrev pub invariant-loop-stretch : goal.invariant-loop-stretch

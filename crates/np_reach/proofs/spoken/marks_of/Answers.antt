@@ -1,6 +1,6 @@
 use Rattle.np_reach.proofs.MarkLemmas.{item_more}
 use Rattle.np_reach.proofs.spoken.marks_of.Goals as goal
-use Rattle.np_rules.specs.model.Ends.{pod, pod_end}
+use Rattle.np_rules.specs.Prelude.{pod, pod_end}
 
 pub loop-far-preserved : goal.loop-far-preserved
 loop-far-preserved g c =

@@ -1,6 +1,6 @@
 use Rattle.std.proofs.Common.{◌≡◌, map, take}
 use Rattle.np_reach.proofs.spoken.marks_of.Given as goal
-use Rattle.np_rules.specs.model.Ends.{pod, pod_end}
+use Rattle.np_rules.specs.Prelude.{pod, pod_end}
 
 -- what is said of the pods so far
 abbrev pub invariant-loop-far : goal.invariant-loop-far

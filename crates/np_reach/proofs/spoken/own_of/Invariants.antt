@@ -1,6 +1,6 @@
 use Rattle.std.proofs.Common.{◌≡◌, map, take}
 use Rattle.np_reach.proofs.spoken.own_of.Given as goal
-use Rattle.np_rules.specs.model.Ends.{pod_end}
+use Rattle.np_rules.specs.Prelude.{pod_end}
 
 -- what is said of the policies so far
 abbrev pub invariant-loop-spoken : goal.invariant-loop-spoken

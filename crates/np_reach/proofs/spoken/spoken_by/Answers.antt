@@ -2,8 +2,8 @@ use Rattle.std.proofs.Common.{flat_map, refl}
 use Rattle.std.proofs.lemmas.List.Elements.{All-push}
 use Rattle.np_reach.proofs.MarkLemmas.{policy_more}
 use Rattle.np_reach.proofs.spoken.spoken_by.Goals as goal
-use Rattle.np_reach.specs.Marks.{IsSpoken}
-use Rattle.np_rules.specs.model.Ends.{pod, pod_end}
+use Rattle.np_reach.specs.Prelude.{IsSpoken}
+use Rattle.np_rules.specs.Prelude.{pod, pod_end}
 
 pub loop-policy-preserved : goal.loop-policy-preserved
 loop-policy-preserved g c = record {

@@ -1,8 +1,8 @@
 use Rattle.std.proofs.Common.{◌≡◌, flat_map, map, take}
 use Rattle.std.specs.Prelude.{All}
 use Rattle.np_reach.proofs.spoken.spoken_by.Given as goal
-use Rattle.np_reach.specs.Marks.{IsSpoken}
-use Rattle.np_rules.specs.model.Ends.{pod, pod_end}
+use Rattle.np_reach.specs.Prelude.{IsSpoken}
+use Rattle.np_rules.specs.Prelude.{pod, pod_end}
 
 -- the policies so far, each with what it says of each of the pods
 abbrev pub invariant-loop-policy : goal.invariant-loop-policy

@@ -2,9 +2,8 @@ use Rattle.std.proofs.Common.{◌+◌, arith, refl}
 use Rattle.std.proofs.lemmas.List.Elements.{All-push}
 use Rattle.np_reach.proofs.StretchLemmas.{first_and, follow_more, stretch_more}
 use Rattle.np_reach.proofs.stretches.stretches.Goals as goal
-use Rattle.np_reach.specs.Namespaces.{AreOfOneNamespace}
-use Rattle.np_reach.specs.Stretches.{IsStretch}
-use Rattle.np_rules.specs.model.Ends.{pod_end}
+use Rattle.np_reach.specs.Prelude.{AreOfOneNamespace, IsStretch}
+use Rattle.np_rules.specs.Prelude.{pod_end}
 
 pub loop-from-preserved : goal.loop-from-preserved
 loop-from-preserved c =

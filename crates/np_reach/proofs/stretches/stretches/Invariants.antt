@@ -1,7 +1,7 @@
 use Rattle.std.proofs.Common.{◌≡◌, ◌≤◌, ◌-◌, flat_map, length, take}
 use Rattle.std.specs.Prelude.{All}
 use Rattle.np_reach.proofs.stretches.stretches.Given as goal
-use Rattle.np_reach.specs.Stretches.{FollowOneAnother, IsStretch}
+use Rattle.np_reach.specs.Prelude.{FollowOneAnother, IsStretch}
 
 -- the stretches so far have the pods so far
 abbrev pub invariant-loop-from : goal.invariant-loop-from

@@ -1,5 +1,5 @@
 use Rattle.std.proofs.Common.{◌≡◌, ◌∙◌, sym, arith}
-use Rattle.np_reading.specs.Ends.{context_at}
+use Rattle.np_reading.specs.Prelude.{context_at}
 use Rattle.np_reading.proofs.CountLemmas.{length-makers, maker_at}
 use Rattle.np_reading.proofs.EndLemmas.{length-top_owners, owner_at, context_there, context_none, contexts-more}
 use Rattle.np_reading.proofs.context.contexts.Goals as goal

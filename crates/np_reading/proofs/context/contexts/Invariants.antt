@@ -1,6 +1,5 @@
 use Rattle.std.proofs.Common.{◌≡◌, ◌++◌, drop}
-use Rattle.np_reading.specs.Ends.{contexts_from, contexts_of}
-use Rattle.np_reading.specs.steps.Known.{KnowsLabels}
+use Rattle.np_reading.specs.Prelude.{KnowsLabels, contexts_from, contexts_of}
 use Rattle.np_reading.proofs.context.contexts.Given as goal
 
 -- those of the items so far, and those of the items that are left, are those of all; and what is known of namespaces is right

@@ -1,6 +1,6 @@
 use Rattle.std.proofs.Common.{◌≡◌, ◌≤◌}
 use Rattle.std.specs.List.{count_by, range_with_len}
-use Rattle.np_reading.specs.LeftOut.{is_left_out}
+use Rattle.np_reading.specs.Prelude.{is_left_out}
 use Rattle.np_reading.proofs.left_out.count_left_out.Given as goal
 
 -- those among the items so far are counted

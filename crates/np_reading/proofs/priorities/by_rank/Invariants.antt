@@ -1,7 +1,7 @@
 use Rattle.std.proofs.Common.{◌≡◌, drop}
 use Rattle.std.specs.Prelude.{fold}
 use Rattle.std.specs.List.{filter_map}
-use Rattle.np_reading.specs.Listed.{admin_policy, with_rank, by_rank}
+use Rattle.np_reading.specs.Prelude.{admin_policy, by_rank, with_rank}
 use Rattle.np_reading.proofs.priorities.by_rank.Given as goal
 
 -- putting in the items that are left gives the ranks of all

@@ -1,7 +1,6 @@
 use Rattle.std.proofs.Common.{◌-◌, ◌≤◌, ◌∙◌, sym, ap, arith, drop, length, length-drop}
 use Rattle.np_reading.proofs.CountLemmas.{first_equal-short}
-use Rattle.np_reading.specs.Listed.{equal_priority}
-use Rattle.np_reading.specs.Readings.{refuse_found}
+use Rattle.np_reading.specs.Prelude.{equal_priority, refuse_found}
 use Rattle.np_reading.proofs.priorities.refuse_equal_neighbours.Goals as goal
 
 pub returns : goal.returns

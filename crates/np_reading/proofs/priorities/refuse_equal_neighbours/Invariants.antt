@@ -1,5 +1,5 @@
 use Rattle.std.proofs.Common.{◌≡◌, ◌-◌, drop}
-use Rattle.np_reading.specs.Listed.{first_equal}
+use Rattle.np_reading.specs.Prelude.{first_equal}
 use Rattle.np_reading.proofs.priorities.refuse_equal_neighbours.Given as goal
 
 -- the first equal neighbours are among those that are left

@@ -1,9 +1,6 @@
 use Rattle.std.proofs.Common.{◌≡◌, ◌∙◌, List, Option, ap, subst}
 use Rattle.std.specs.Prelude.{IfOk}
-use Rattle.np_reading.specs.Ends.{contexts_of}
-use Rattle.np_reading.specs.steps.Gathering.{nothing, seen, with_items}
-use Rattle.np_reading.specs.LeftOut.{count_left_out}
-use Rattle.np_reading.specs.Types.{EstateLists, Finished, Host, Item, PodContext, Skipped}
+use Rattle.np_reading.specs.Prelude.{EstateLists, Finished, Host, Item, PodContext, Skipped, contexts_of, count_left_out, nothing, seen, with_items}
 use Rattle.np_reading.proofs.GatherLemmas.{lists-gathered}
 use Rattle.np_reading.proofs.reading.lists_of.Goals as goal
 

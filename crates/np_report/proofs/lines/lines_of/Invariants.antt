@@ -1,6 +1,6 @@
 use Rattle.std.proofs.Common.{◌≡◌, ◌++◌, drop}
 use Rattle.np_report.proofs.lines.lines_of.Given as goal
-use Rattle.np_report.specs.Forms.{lines_of}
+use Rattle.np_report.specs.Prelude.{lines_of}
 
 -- the lines so far and those of the rows that are left are all of them
 abbrev pub invariant-loop-row : goal.invariant-loop-row

@@ -1,6 +1,6 @@
 use Rattle.std.proofs.Common.{◌≡◌, ◌++◌, codes, string_bytes, take}
 use Rattle.std.specs.List.{flat_map}
-use Rattle.np_addr.specs.AddressText.{cidr_text}
+use Rattle.np_addr.specs.Prelude.{cidr_text}
 use Rattle.np_report.proofs.spans.joined.Given as goal
 
 -- the blocks before the place stand behind the first, each after a comma

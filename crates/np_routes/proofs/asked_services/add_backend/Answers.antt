@@ -1,13 +1,9 @@
 use Rattle.std.proofs.Common.{◌≡◌, ◌||◌, ℕ, List, get_or, ap, sym, ◌∙◌}
 use Rattle.std.proofs.lemmas.Result.{on_ok_weaker}
 use Rattle.std.specs.List.{list_any}
-use Rattle.np_routes.specs.Types.{AskedService, Backend, PortName}
+use Rattle.np_routes.specs.Prelude.{AskedService, Backend, PortName, asked_leads, has_port, is_same_port, leads_to, routes_of_backend, routes_through, service_named}
 use Rattle.np_routes.proofs.AskedLemmas.{asked-within, backend-added, services-kept}
 use Rattle.np_routes.proofs.asked_services.add_backend.Goals as goal
-use Rattle.np_routes.specs.Routes.{leads_to, routes_of_backend, routes_through}
-use Rattle.np_routes.specs.Services.{service_named}
-use Rattle.np_routes.specs.steps.AskedServices.{asked_leads}
-use Rattle.np_routes.specs.steps.PortSets.{has_port, is_same_port}
 
 pub returns-clause-services : goal.returns-clause-services
 returns-clause-services c =

@@ -1,9 +1,8 @@
 use Rattle.std.proofs.Common.{◌≡◌, ◌||◌, ℕ, flat_map, take}
 use Rattle.std.specs.List.{list_any}
-use Rattle.np_routes.specs.Routes.{leads_to, routes_of_backend}
-use Rattle.np_routes.specs.steps.AskedServices.{asked_leads, services_of}
+use Rattle.np_routes.specs.Prelude.{asked_leads, leads_to, routes_of_backend, services_of}
 use Rattle.np_routes.proofs.asked_services.add_ingress.Given as goal
-use Rattle.np_rules.specs.model.Ends.{PodEnd}
+use Rattle.np_rules.specs.Prelude.{PodEnd}
 
 -- what is named leads where it did, and where the backends so far do
 abbrev pub invariant-loop-backend : goal.invariant-loop-backend

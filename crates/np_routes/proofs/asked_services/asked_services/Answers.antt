@@ -1,11 +1,9 @@
 use Rattle.std.proofs.Common.{◌||◌, List, length, flat_map, ap, sym, ◌∙◌}
 use Rattle.std.proofs.lemmas.List.{take_all, with_items_is}
 use Rattle.std.specs.List.{list_any}
-use Rattle.np_routes.specs.Types.{AskedService, PlacedIngress}
+use Rattle.np_routes.specs.Prelude.{AskedService, PlacedIngress, asked_leads, leads_to, routes_of_ingress, services_of}
 use Rattle.np_routes.proofs.BackendLemmas.{routes-all, routes-next}
 use Rattle.np_routes.proofs.asked_services.asked_services.Goals as goal
-use Rattle.np_routes.specs.Routes.{leads_to, routes_of_ingress}
-use Rattle.np_routes.specs.steps.AskedServices.{asked_leads, services_of}
 
 pub loop-placed-preserved : goal.loop-placed-preserved
 loop-placed-preserved c =

@@ -1,9 +1,8 @@
 use Rattle.std.proofs.Common.{◌≡◌, ℕ, flat_map, take}
 use Rattle.std.specs.List.{list_any}
-use Rattle.np_routes.specs.Routes.{leads_to, routes_of_ingress}
-use Rattle.np_routes.specs.steps.AskedServices.{asked_leads, services_of}
+use Rattle.np_routes.specs.Prelude.{asked_leads, leads_to, routes_of_ingress, services_of}
 use Rattle.np_routes.proofs.asked_services.asked_services.Given as goal
-use Rattle.np_rules.specs.model.Ends.{PodEnd}
+use Rattle.np_rules.specs.Prelude.{PodEnd}
 
 -- what is named so far leads where the routes of the ingresses so far do
 abbrev pub invariant-loop-placed : goal.invariant-loop-placed

@@ -5,7 +5,7 @@ use Rattle.np_routes.proofs.AnyLemmas.{or-nothing}
 use Rattle.np_routes.proofs.AskedLemmas.{asked-none}
 use Rattle.np_routes.proofs.TargetLemmas.{service-added}
 use Rattle.np_routes.proofs.backends.add_service.Goals as goal
-use Rattle.np_routes.specs.steps.TargetsByNamespace.{targets_in}
+use Rattle.np_routes.specs.Prelude.{targets_in}
 
 pub returns-then-is_empty : goal.returns-then-is_empty
 returns-then-is_empty c p number = or-nothing _ _ (asked-none p number c.args.asked.now (c.if-is_empty.ensures refl))

@@ -2,12 +2,12 @@ use Rattle.std.proofs.Common.{arith, length, ◌+◌, ap, ◌∙◌}
 use Rattle.std.specs.List.{list_any}
 use Rattle.std.proofs.lemmas.List.{take_all}
 use Rattle.std.proofs.lemmas.Result.{IfOk-weaker}
-use Rattle.np_routes.specs.Types.{Family}
-use Rattle.np_conns.specs.Conns.{Conns, has_spot}
+use Rattle.np_routes.specs.Prelude.{Family}
+use Rattle.np_conns.specs.Prelude.{Conns, has_spot}
 use Rattle.np_routes.proofs.ReachedLemmas.{sets-next, steps-families}
 use Rattle.np_routes.proofs.senders.sent_in_some.Goals as goal
-use Rattle.np_rules.specs.PodSides.{side_rule_count}
-use Rattle.np_kinds.specs.Between.{between_pods}
+use Rattle.np_rules.specs.Prelude.{side_rule_count}
+use Rattle.np_kinds.specs.Prelude.{between_pods}
 
 pub returns-in_err-set_between-clause-most : goal.returns-in_err-set_between-clause-most
 returns-in_err-set_between-clause-most g c =

@@ -1,10 +1,10 @@
 use Rattle.std.proofs.Common.{◌≡◌, ◌≤◌, ◌+◌, ◌*◌, true, take}
 use Rattle.std.specs.List.{list_any}
-use Rattle.np_conns.specs.Conns.{has_spot, is_spot}
-use Rattle.np_routes.specs.Types.{PortSpot}
+use Rattle.np_conns.specs.Prelude.{has_spot, is_spot}
+use Rattle.np_routes.specs.Prelude.{PortSpot}
 use Rattle.np_routes.proofs.senders.sent_in_some.Given as goal
-use Rattle.np_rules.specs.PodSides.{side_rule_count}
-use Rattle.np_kinds.specs.Between.{between_pods}
+use Rattle.np_rules.specs.Prelude.{side_rule_count}
+use Rattle.np_kinds.specs.Prelude.{between_pods}
 
 -- what may be sent in some of the families so far, and the rules that were looked at for them
 abbrev pub invariant-loop-family : goal.invariant-loop-family

@@ -1,6 +1,6 @@
 use Rattle.std.proofs.Common.{◌∙◌}
 use Rattle.std.proofs.lemmas.Result.{on_ok_weaker}
-use Rattle.np_routes.specs.Types.{Number}
+use Rattle.np_routes.specs.Prelude.{Number}
 use Rattle.np_routes.proofs.PortSetLemmas.{at_pod-added}
 use Rattle.np_routes.proofs.TargetLemmas.{target-headless, target-own}
 use Rattle.np_routes.proofs.service_targets.add_target.Goals as goal

@@ -1,11 +1,10 @@
 use Rattle.std.proofs.Common.{◌≡◌, ◌&&◌, true, false, arith, ◌∙◌}
 use Rattle.std.proofs.Math.Bool.{or-false}
-use Rattle.np_conns.specs.Conns.{same_proto}
-use Rattle.np_routes.specs.Types.{Named, Tcp}
+use Rattle.np_conns.specs.Prelude.{same_proto}
+use Rattle.np_routes.specs.Prelude.{Named, Tcp, has_port}
 use Rattle.np_routes.proofs.TargetLemmas.{named-added, named-other}
 use Rattle.np_routes.proofs.targets.add_named.Goals as goal
 use Rattle.np_routes.proofs.targets.add_named.Goals.{then-eq+then-has_name+in_ok-add_number, else-eq, else-eq-via-then-eq+else-has_name, else-eq-via-else-eq}
-use Rattle.np_routes.specs.steps.PortSets.{has_port}
 
 pub loop-port-preserved : goal.loop-port-preserved
 loop-port-preserved c =

@@ -1,7 +1,6 @@
 use Rattle.std.proofs.Common.{◌≡◌, ◌||◌, ℕ, List, take}
 use Rattle.std.specs.List.{list_any}
-use Rattle.np_routes.specs.Types.{Named, Number}
-use Rattle.np_routes.specs.steps.PortSets.{has_port, is_named_in}
+use Rattle.np_routes.specs.Prelude.{Named, Number, has_port, is_named_in}
 use Rattle.np_routes.proofs.targets.add_named.Given as goal
 
 -- the numbers of before and those of the ports so far whose names are there; the names stay

@@ -4,9 +4,8 @@ use Rattle.np_routes.proofs.PortSetLemmas.{at_pod-none}
 use Rattle.np_routes.proofs.TargetLemmas.{targets-served, targets-unserved}
 use Rattle.np_routes.proofs.targets.targets_at.Goals as goal
 use Rattle.np_routes.proofs.targets.targets_at.Goals.{else-serves, then-serves+in_ok-add_all}
-use Rattle.np_routes.specs.steps.PortSets.{at_pod}
-use Rattle.np_routes.specs.steps.TargetsByNamespace.{target_leads}
-use Rattle.np_rules.specs.model.Ends.{pod_end}
+use Rattle.np_routes.specs.Prelude.{at_pod, target_leads}
+use Rattle.np_rules.specs.Prelude.{pod_end}
 
 pub loop-one-init : goal.loop-one-init
 loop-one-init c number = at_pod-none c.new-made.result (pod_end c.args.pod.now) number c.new-made.ensures

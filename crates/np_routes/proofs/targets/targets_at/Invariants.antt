@@ -1,9 +1,8 @@
 use Rattle.std.proofs.Common.{◌≡◌, ℕ, take}
 use Rattle.std.specs.List.{list_any}
-use Rattle.np_routes.specs.steps.PortSets.{at_pod}
-use Rattle.np_routes.specs.steps.TargetsByNamespace.{target_leads}
+use Rattle.np_routes.specs.Prelude.{at_pod, target_leads}
 use Rattle.np_routes.proofs.targets.targets_at.Given as goal
-use Rattle.np_rules.specs.model.Ends.{pod_end}
+use Rattle.np_rules.specs.Prelude.{pod_end}
 
 -- the targets so far lead where the services so far do
 abbrev pub invariant-loop-one : goal.invariant-loop-one

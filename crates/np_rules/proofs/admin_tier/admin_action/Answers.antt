@@ -1,4 +1,4 @@
-use Rattle.np_rules.specs.Views.{pod_view, contact_view}
+use Rattle.np_rules.specs.Prelude.{contact_view, pod_view}
 use Rattle.np_rules.proofs.AdminTierLemmas.{action-next, action-all, cost-next}
 use Rattle.np_rules.proofs.admin_tier.admin_action.Goals as goal
 

@@ -1,9 +1,7 @@
 use Rattle.std.proofs.Common.{◌≡◌, ◌+◌, length, take}
 use Rattle.std.specs.List.{find}
 use Rattle.std.specs.Option.{option_map}
-use Rattle.np_rules.specs.model.Places.{admin_places}
-use Rattle.np_rules.specs.model.Rules.{admin_rule_matches}
-use Rattle.np_rules.specs.Views.{pod_view, contact_view}
+use Rattle.np_rules.specs.Prelude.{admin_places, admin_rule_matches, contact_view, pod_view}
 use Rattle.np_rules.proofs.admin_tier.admin_action.Given as goal
 
 -- what the first matching rule of the policies so far says, and how many rules they have

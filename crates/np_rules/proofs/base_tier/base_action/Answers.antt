@@ -1,7 +1,6 @@
 use Rattle.std.specs.Option.{option_copied}
 use Rattle.np_rules.proofs.BaseTierLemmas.{action_placed}
-use Rattle.np_rules.specs.model.Places.{base_places}
-use Rattle.np_rules.specs.Views.{pod_view, contact_view}
+use Rattle.np_rules.specs.Prelude.{base_places, contact_view, pod_view}
 use Rattle.np_rules.proofs.base_tier.base_action.Goals as goal
 
 pub returns-clause-action : goal.returns-clause-action

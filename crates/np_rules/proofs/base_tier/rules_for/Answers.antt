@@ -1,6 +1,6 @@
 use Rattle.std.proofs.Common.{sym, ◌∙◌}
 use Rattle.np_rules.proofs.BaseTierLemmas.{rules_selected}
-use Rattle.np_rules.specs.Views.{pod_view}
+use Rattle.np_rules.specs.Prelude.{pod_view}
 use Rattle.np_rules.proofs.base_tier.rules_for.Goals as goal
 
 pub returns-then-subject_selects : goal.returns-then-subject_selects

@@ -1,10 +1,8 @@
 use Rattle.std.proofs.Common.{List, ℕ, ap, filter, ◌∙◌}
 use Rattle.std.specs.Str.{bytes_eq}
-use Rattle.np_rules.specs.Types.{NetPolicy}
+use Rattle.np_rules.specs.Prelude.{NetPolicy, PodEnd, is_isolated, pod_end}
 use Rattle.np_rules.proofs.OwnPolicies.{own-is_isolated}
 use Rattle.np_rules.proofs.estate_pods.isolates_pod.Goals as goal
-use Rattle.np_rules.specs.model.Ends.{PodEnd, pod_end}
-use Rattle.np_rules.specs.model.NetTier.{is_isolated}
 
 pub returns : goal.returns
 returns c =

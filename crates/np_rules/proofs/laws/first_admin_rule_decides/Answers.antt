@@ -1,4 +1,4 @@
-use Rattle.np_rules.specs.model.AdminTier.{admin_candidates, admin_precedes}
+use Rattle.np_rules.specs.Prelude.{admin_candidates, admin_precedes}
 use Rattle.np_rules.proofs.DeciderLemmas.{admin_order, least_is_among, least_is_first, none_is_empty}
 use Rattle.np_rules.proofs.laws.first_admin_rule_decides.Goals as goal
 

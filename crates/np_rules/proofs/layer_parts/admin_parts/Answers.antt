@@ -1,5 +1,5 @@
 use Rattle.std.proofs.Common.{[]}
-use Rattle.np_rules.specs.Layers.{IsAdminPart}
+use Rattle.np_rules.specs.Prelude.{IsAdminPart}
 use Rattle.np_rules.proofs.PairwiseLemmas.{Pairwise-next-map}
 use Rattle.np_rules.proofs.layer_parts.admin_parts.Goals as goal
 

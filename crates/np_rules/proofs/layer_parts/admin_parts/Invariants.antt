@@ -1,5 +1,5 @@
 use Rattle.std.proofs.Common.{map, take}
-use Rattle.np_rules.specs.Layers.{Pairwise, IsAdminPart}
+use Rattle.np_rules.specs.Prelude.{IsAdminPart, Pairwise}
 use Rattle.np_rules.proofs.layer_parts.admin_parts.Given as goal
 
 -- the parts so far are those of the rules so far

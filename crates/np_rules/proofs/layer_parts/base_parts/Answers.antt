@@ -1,5 +1,5 @@
 use Rattle.std.proofs.Common.{[]}
-use Rattle.np_rules.specs.Layers.{IsBasePart}
+use Rattle.np_rules.specs.Prelude.{IsBasePart}
 use Rattle.np_rules.proofs.PairwiseLemmas.{Pairwise-next}
 use Rattle.np_rules.proofs.layer_parts.base_parts.Goals as goal
 

@@ -1,5 +1,5 @@
 use Rattle.std.proofs.Common.{take}
-use Rattle.np_rules.specs.Layers.{Pairwise, IsBasePart}
+use Rattle.np_rules.specs.Prelude.{IsBasePart, Pairwise}
 use Rattle.np_rules.proofs.layer_parts.base_parts.Given as goal
 
 -- the parts so far are those of the rules so far

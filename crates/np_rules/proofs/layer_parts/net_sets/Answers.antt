@@ -1,6 +1,5 @@
 use Rattle.std.proofs.Common.{[]}
-use Rattle.np_rules.specs.Layers.{IsSetOf}
-use Rattle.np_rules.specs.model.Rules.{net_rule_matches}
+use Rattle.np_rules.specs.Prelude.{IsSetOf, net_rule_matches}
 use Rattle.np_rules.proofs.PairwiseLemmas.{Pairwise-next-map}
 use Rattle.np_rules.proofs.layer_parts.net_sets.Goals as goal
 

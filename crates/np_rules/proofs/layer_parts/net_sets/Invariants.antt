@@ -1,6 +1,5 @@
 use Rattle.std.proofs.Common.{map, take}
-use Rattle.np_rules.specs.Layers.{Pairwise, IsSetOf}
-use Rattle.np_rules.specs.model.Rules.{net_rule_matches}
+use Rattle.np_rules.specs.Prelude.{IsSetOf, Pairwise, net_rule_matches}
 use Rattle.np_rules.proofs.layer_parts.net_sets.Given as goal
 
 -- the sets so far are those of the rules so far

@@ -1,5 +1,5 @@
 use Rattle.std.proofs.Common.{refl}
-use Rattle.np_rules.specs.Views.{pod_view, contact_view}
+use Rattle.np_rules.specs.Prelude.{contact_view, pod_view}
 use Rattle.np_rules.proofs.NetTierLemmas.{permits-next, cost-next}
 use Rattle.np_rules.proofs.net_tier.permits.Goals as goal
 

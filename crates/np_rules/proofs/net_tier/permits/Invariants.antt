@@ -1,7 +1,5 @@
 use Rattle.std.proofs.Common.{◌≡◌, ◌+◌, length, take}
-use Rattle.np_rules.specs.model.NetTier.{permits}
-use Rattle.np_rules.specs.model.Places.{net_places}
-use Rattle.np_rules.specs.Views.{pod_view, contact_view}
+use Rattle.np_rules.specs.Prelude.{contact_view, net_places, permits, pod_view}
 use Rattle.np_rules.proofs.net_tier.permits.Given as goal
 
 -- whether some rule of the policies so far matches, and how many rules they have

@@ -1,13 +1,7 @@
 use Rattle.std.proofs.Common.{List, refl, ap, subst, ◌∙◌, filter, arith}
 use Rattle.std.proofs.lemmas.List.{take_all}
 use Rattle.std.proofs.lemmas.Option.{slice_get_read}
-use Rattle.np_rules.specs.Types.{NetPolicy}
-use Rattle.np_rules.specs.Layers.{Pairwise}
-use Rattle.np_rules.specs.model.NetTier.{isolates}
-use Rattle.np_rules.specs.model.Places.{net_rules_of}
-use Rattle.np_rules.specs.model.Selection.{net_selects}
-use Rattle.np_rules.specs.PolicyRules.{IsPolicyAt, net_rules_in}
-use Rattle.np_rules.specs.Views.{pod_view}
+use Rattle.np_rules.specs.Prelude.{IsPolicyAt, NetPolicy, Pairwise, isolates, net_rules_in, net_rules_of, net_selects, pod_view}
 use Rattle.np_rules.proofs.OwnPolicies.{own-isolating}
 use Rattle.np_rules.proofs.PolicyRulesLemmas.{free_is, isolating_is, kept_more, left_more}
 use Rattle.np_rules.proofs.policy_rules.isolating_policies.Goals as goal

@@ -1,9 +1,6 @@
 use Rattle.std.proofs.Common.{take}
 use Rattle.std.specs.List.{filter}
-use Rattle.np_rules.specs.Layers.{Pairwise}
-use Rattle.np_rules.specs.model.NetTier.{isolates}
-use Rattle.np_rules.specs.PolicyRules.{IsPolicyAt, net_rules_in}
-use Rattle.np_rules.specs.Views.{pod_view}
+use Rattle.np_rules.specs.Prelude.{IsPolicyAt, Pairwise, isolates, net_rules_in, pod_view}
 use Rattle.np_rules.proofs.policy_rules.isolating_policies.Given as goal
 
 -- those so far are the isolating ones of the namespace's policies so far

@@ -1,9 +1,6 @@
 use Rattle.std.proofs.Common.{refl, sym, ◌∙◌}
 use Rattle.std.proofs.lemmas.Option.{slice_get_read}
-use Rattle.np_rules.specs.model.Places.{admin_rules_of}
-use Rattle.np_rules.specs.model.Selection.{subject_selects}
-use Rattle.np_rules.specs.PolicyRules.{IsPolicyAt}
-use Rattle.np_rules.specs.Views.{pod_view}
+use Rattle.np_rules.specs.Prelude.{IsPolicyAt, admin_rules_of, pod_view, subject_selects}
 use Rattle.np_rules.proofs.PolicyRulesLemmas.{kept_more, left_more}
 use Rattle.np_rules.proofs.policy_rules.selecting_policies.Goals as goal
 use Rattle.np_rules.proofs.policy_rules.selecting_policies.Goals.{then-subject_selects+in_ok-push, else-subject_selects}

@@ -1,10 +1,6 @@
 use Rattle.std.proofs.Common.{take}
 use Rattle.std.specs.List.{filter}
-use Rattle.np_rules.specs.Layers.{Pairwise}
-use Rattle.np_rules.specs.model.Places.{admin_rules_of}
-use Rattle.np_rules.specs.model.Selection.{subject_selects}
-use Rattle.np_rules.specs.PolicyRules.{IsPolicyAt}
-use Rattle.np_rules.specs.Views.{pod_view}
+use Rattle.np_rules.specs.Prelude.{IsPolicyAt, Pairwise, admin_rules_of, pod_view, subject_selects}
 use Rattle.np_rules.proofs.policy_rules.selecting_policies.Given as goal
 
 -- those so far are the selecting ones of the policies so far

@@ -1,6 +1,6 @@
 use Rattle.std.proofs.Common.{ap, ◌∙◌}
 use Rattle.std.proofs.lemmas.Result.{IfOk-weaker}
-use Rattle.np_conns.specs.Conns.{Conns, has_spot}
+use Rattle.np_conns.specs.Prelude.{Conns, has_spot}
 use Rattle.np_rules.proofs.port_sets.joined_set.Goals as goal
 
 pub returns : goal.returns

@@ -1,8 +1,7 @@
 use Rattle.std.proofs.lemmas.Result.{IfOk-weaker}
 use Rattle.np_rules.proofs.Protocols.{of_each}
 use Rattle.np_rules.proofs.port_sets.named_at.Goals as goal
-use Rattle.np_rules.specs.Views.{end_view}
-use Rattle.np_rules.specs.model.PortEntries.{has_named}
+use Rattle.np_rules.specs.Prelude.{end_view, has_named}
 
 pub returns : goal.returns
 returns c =

@@ -1,8 +1,7 @@
 use Rattle.std.proofs.Common.{◌≡◌, ◌==◌, true, take}
 use Rattle.std.specs.List.{list_any}
-use Rattle.np_conns.specs.Conns.{same_proto}
-use Rattle.np_rules.specs.Types.{PortSpot}
-use Rattle.np_rules.specs.model.PortEntries.{is_named}
+use Rattle.np_conns.specs.Prelude.{same_proto}
+use Rattle.np_rules.specs.Prelude.{PortSpot, is_named}
 use Rattle.np_rules.proofs.port_sets.numbers_named.Given as goal
 
 -- those gathered so far are the numbers of the ports of that name and protocol so far

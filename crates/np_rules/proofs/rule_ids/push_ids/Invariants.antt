@@ -1,5 +1,5 @@
 use Rattle.std.proofs.Common.{◌≡◌, ◌++◌}
-use Rattle.np_rules.specs.LayerRules.{ids_from}
+use Rattle.np_rules.specs.Prelude.{ids_from}
 use Rattle.np_rules.proofs.rule_ids.push_ids.Given as goal
 
 -- the names of the rules so far stand last

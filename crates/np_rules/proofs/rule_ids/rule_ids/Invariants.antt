@@ -1,5 +1,5 @@
 use Rattle.std.proofs.Common.{◌≡◌, take}
-use Rattle.np_rules.specs.PolicyRules.{ids_of}
+use Rattle.np_rules.specs.Prelude.{ids_of}
 use Rattle.np_rules.proofs.rule_ids.rule_ids.Given as goal
 
 -- the names of the rules of the policies so far

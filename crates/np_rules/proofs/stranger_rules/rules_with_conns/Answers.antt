@@ -1,9 +1,7 @@
 use Rattle.std.proofs.Common.{refl, sym, subst}
 use Rattle.std.specs.List.{AllByRecursion}
-use Rattle.np_rules.specs.StrangerRules.{HasPorts, rule_of}
-use Rattle.np_rules.specs.Views.{end_view}
+use Rattle.np_rules.specs.Prelude.{HasPorts, RuleConns, end_view, rule_of}
 use Rattle.np_rules.proofs.StrangerLemmas.{all-push, has_ports, images-next}
-use Rattle.np_rules.specs.Types.{RuleConns}
 use Rattle.np_rules.proofs.stranger_rules.rules_with_conns.Goals as goal
 
 pub loop-rule-preserved : goal.loop-rule-preserved

@@ -1,7 +1,6 @@
 use Rattle.std.proofs.Common.{◌≡◌, map, take}
 use Rattle.std.specs.List.{AllByRecursion}
-use Rattle.np_rules.specs.StrangerRules.{HasPorts, rule_of}
-use Rattle.np_rules.specs.Views.{end_view}
+use Rattle.np_rules.specs.Prelude.{HasPorts, end_view, rule_of}
 use Rattle.np_rules.proofs.stranger_rules.rules_with_conns.Given as goal
 
 -- the rules so far, each with its set

@@ -1,6 +1,6 @@
 use Rattle.std.proofs.Common.{ap, ◌∙◌}
 use Rattle.serde_json.specs.Written.{compact_text, has_float}
-use Rattle.np_sample.specs.Sample.{sample_text}
+use Rattle.np_sample.specs.Prelude.{sample_text}
 use Rattle.np_sample.proofs.FloatLemmas.{has_float-sample}
 use Rattle.np_sample.proofs.cluster.sample.Goals as goal
 

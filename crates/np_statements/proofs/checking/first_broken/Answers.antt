@@ -7,10 +7,7 @@ use Rattle.std.proofs.lemmas.Result.{err_from_is_err_and}
 use Rattle.np_statements.proofs.AllPodsLemmas.{settled-left}
 use Rattle.np_statements.proofs.AmongLemmas.{known-line, line_unknown, name_unknown, none_broken, one_broken, one_left}
 use Rattle.np_statements.proofs.FoundLemmas.{at_turn}
-use Rattle.np_statements.specs.Types.{EstateLists}
-use Rattle.np_statements.specs.AskedLines.{IsAsked, IsWellLine}
-use Rattle.np_statements.specs.BrokenLines.{HasPlaces, broken_of}
-use Rattle.np_statements.specs.FoundEnds.{ends_found}
+use Rattle.np_statements.specs.Prelude.{EstateLists, HasPlaces, IsAsked, IsWellLine, broken_of, ends_found}
 use Rattle.np_statements.proofs.checking.first_broken.Goals as goal
 
 pub returns-in-Some-clause-first : goal.returns-in-Some-clause-first

@@ -1,7 +1,7 @@
 use Rattle.std.proofs.Common.{length, ap, ◌∙◌, arith}
 use Rattle.std.specs.List.{range_with_len}
 use Rattle.std.proofs.lemmas.Iterator.{YieldsList-from_range, items_from_collect}
-use Rattle.np_fold.specs.Workloads.{Folding}
+use Rattle.np_fold.specs.Prelude.{Folding}
 use Rattle.np_statements.proofs.ends.all_works.Goals as goal
 
 pub returns : goal.returns

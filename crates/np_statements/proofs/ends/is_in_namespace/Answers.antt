@@ -1,7 +1,7 @@
 use Rattle.std.proofs.Common.{refl, sym, ap, ◌∙◌}
 use Rattle.std.specs.Str.{bytes_eq}
-use Rattle.np_statements.specs.Types.{Pod}
-use Rattle.np_fold.specs.Workloads.{folding_of}
+use Rattle.np_statements.specs.Prelude.{Pod}
+use Rattle.np_fold.specs.Prelude.{folding_of}
 use Rattle.np_statements.proofs.EndLemmas.{in_namespace-by}
 use Rattle.np_kinds.proofs.MemberLemmas.{members-some, members-within, source-member}
 use Rattle.np_statements.proofs.ends.is_in_namespace.Goals as goal

@@ -1,6 +1,6 @@
 use Rattle.std.proofs.Common.{ap}
-use Rattle.np_addr.specs.Blocks.{AddressRanges}
-use Rattle.np_statements.specs.Types.{Ends}
+use Rattle.np_addr.specs.Prelude.{AddressRanges}
+use Rattle.np_statements.specs.Prelude.{Ends}
 use Rattle.np_rules.proofs.AddressLemmas.{set_has-nothing}
 use Rattle.np_statements.proofs.AddressSetLemmas.{is-no_address}
 use Rattle.np_statements.proofs.ends.works_alone.Goals as goal

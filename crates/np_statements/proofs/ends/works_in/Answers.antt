@@ -1,9 +1,9 @@
 use Rattle.std.proofs.Common.{◌≡◌, ℕ, length, ap, sym, ◌∙◌, arith}
 use Rattle.std.specs.Prelude.{filter}
 use Rattle.std.specs.List.{range_with_len}
-use Rattle.np_fold.specs.Workloads.{Folding}
+use Rattle.np_fold.specs.Prelude.{Folding}
 use Rattle.np_statements.proofs.EndLemmas.{one_left, one_taken}
-use Rattle.np_statements.specs.Ends.{is_in_namespace}
+use Rattle.np_statements.specs.Prelude.{is_in_namespace}
 use Rattle.np_statements.proofs.ends.works_in.Goals as goal
 use Rattle.np_statements.proofs.ends.works_in.Goals.{then-is_in_namespace+in_ok-push, else-is_in_namespace}
 

@@ -1,7 +1,7 @@
 use Rattle.std.proofs.Common.{◌≡◌}
 use Rattle.std.specs.Prelude.{filter}
 use Rattle.std.specs.List.{range_with_len}
-use Rattle.np_statements.specs.Ends.{is_in_namespace}
+use Rattle.np_statements.specs.Prelude.{is_in_namespace}
 use Rattle.np_statements.proofs.ends.works_in.Given as goal
 
 -- the works so far are those of the numbers so far

@@ -1,6 +1,6 @@
 use Rattle.np_statements.proofs.BrokenLemmas.{first-is}
 use Rattle.np_statements.proofs.LineLemmas.{statements-well}
-use Rattle.np_statements.specs.BrokenLines.{first_broken}
+use Rattle.np_statements.specs.Prelude.{first_broken}
 use Rattle.np_statements.proofs.laws.the_first_broken_line_is_found.Goals as goal
 
 pub returns : goal.returns

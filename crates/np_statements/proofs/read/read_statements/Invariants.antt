@@ -1,6 +1,6 @@
 use Rattle.std.proofs.Common.{◌≡◌, ◌+◌, map, drop}
 use Rattle.np_statements.proofs.StepLemmas.{after}
-use Rattle.np_statements.specs.Lines.{lines_read, statements_of}
+use Rattle.np_statements.specs.Prelude.{lines_read, statements_of}
 use Rattle.np_statements.proofs.read.read_statements.Given as goal
 
 -- the statements so far, and then those of the lines left, are those of the file

@@ -1,11 +1,10 @@
 use Rattle.std.proofs.Common.{◌/◌, map, arith, ap, ◌∙◌}
 use Rattle.std.proofs.lemmas.Result.{IfOk-weaker}
-use Rattle.np_fold.specs.Workloads.{folding_of}
-use Rattle.np_kinds.specs.Between.{IsWorkload}
+use Rattle.np_fold.specs.Prelude.{folding_of}
+use Rattle.np_kinds.specs.Prelude.{IsWorkload}
 use Rattle.np_table.proofs.KindLemmas.{rules-most}
 use Rattle.np_table.proofs.all_rows.address_rows_at.Goals as goal
-use Rattle.np_table.specs.Rows.{row_of, rows_towards}
-use Rattle.np_table.specs.Table.{estate_table}
+use Rattle.np_table.specs.Prelude.{estate_table, row_of, rows_towards}
 
 pub returns-in_err-rows-clause-most : goal.returns-in_err-rows-clause-most
 returns-in_err-rows-clause-most g c =

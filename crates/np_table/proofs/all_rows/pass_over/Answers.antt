@@ -1,10 +1,10 @@
 use Rattle.std.proofs.Common.{◌≡◌, ◌/◌, length, arith, ap, ◌∙◌}
-use Rattle.np_fold.specs.Workloads.{Folding, folding_of}
+use Rattle.np_fold.specs.Prelude.{Folding, folding_of}
 use Rattle.np_table.proofs.DueLemmas.{source-below}
 use Rattle.np_table.proofs.PlaceLemmas.{rows_from-over}
 use Rattle.np_table.proofs.SideLemmas.{silent-rows}
 use Rattle.np_table.proofs.all_rows.pass_over.Goals as goal
-use Rattle.np_kinds.specs.Between.{number_of_workloads}
+use Rattle.np_kinds.specs.Prelude.{number_of_workloads}
 
 pub loop-destination-preserved : goal.loop-destination-preserved
 loop-destination-preserved c =

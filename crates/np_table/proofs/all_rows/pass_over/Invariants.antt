@@ -1,7 +1,6 @@
 use Rattle.std.proofs.Common.{◌≡◌, ◌≤◌, ◌<◌, ◌+◌, ◌-◌, ◌*◌}
 use Rattle.np_table.proofs.all_rows.pass_over.Given as goal
-use Rattle.np_table.specs.Table.{estate_table}
-use Rattle.np_table.specs.ToCome.{rows_from}
+use Rattle.np_table.specs.Prelude.{estate_table, rows_from}
 
 -- the places so far have no rows
 abbrev pub invariant-loop-destination : goal.invariant-loop-destination

@@ -6,9 +6,9 @@ use Rattle.np_table.proofs.PlaceLemmas.{rows_at-address, rows_at-pair}
 use Rattle.np_table.proofs.SetLemmas.{OnErr-from, OnOk-from}
 use Rattle.np_table.proofs.all_rows.rows_at.Goals as goal
 use Rattle.np_table.proofs.all_rows.rows_at.Goals.{else-place-count, then-place-count}
-use Rattle.np_fold.specs.Workloads.{Folding, folding_of}
-use Rattle.np_table.specs.RowCache.{IsCached}
-use Rattle.np_kinds.specs.Between.{number_of_workloads}
+use Rattle.np_fold.specs.Prelude.{Folding, folding_of}
+use Rattle.np_table.specs.Prelude.{IsCached}
+use Rattle.np_kinds.specs.Prelude.{number_of_workloads}
 
 pub returns-then-place-pairs-clause-rows : goal.returns-then-place-pairs-clause-rows
 returns-then-place-pairs-clause-rows g c = IfOk-weaker c.address_rows_at.result _ _

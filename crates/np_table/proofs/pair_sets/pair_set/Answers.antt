@@ -1,5 +1,5 @@
 use Rattle.std.proofs.Common.{Some, arith, refl, ap, sym, ◌∙◌}
-use Rattle.np_fold.specs.Workloads.{folding_of}
+use Rattle.np_fold.specs.Prelude.{folding_of}
 use Rattle.np_table.proofs.SideLemmas.{every_pod-of, ends-are, ends-both, ends-count, ends-pass}
 use Rattle.np_table.proofs.pair_sets.pair_set.Goals as goal
 

@@ -1,5 +1,5 @@
 use Rattle.std.proofs.Common.{refl}
-use Rattle.np_fold.specs.Workloads.{folding_of}
+use Rattle.np_fold.specs.Prelude.{folding_of}
 use Rattle.np_kinds.proofs.MemberLemmas.{members-some, members-within, source-member}
 use Rattle.np_kinds.proofs.PairLemmas.{far-within, far_is}
 use Rattle.np_table.proofs.pair_sets.rules_of_pair.Goals as goal

@@ -1,6 +1,6 @@
 use Rattle.std.proofs.Common.{◌≤◌, ◌-◌, length}
 use Rattle.np_table.proofs.row_cache.make_places.Given as goal
-use Rattle.np_table.specs.RowCache.{CachesTheSame}
+use Rattle.np_table.specs.Prelude.{CachesTheSame}
 
 -- the same is kept
 abbrev pub invariant-loop-by_kind : goal.invariant-loop-by_kind

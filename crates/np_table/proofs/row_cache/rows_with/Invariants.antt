@@ -1,6 +1,6 @@
 use Rattle.std.proofs.Common.{◌≡◌, map, take}
 use Rattle.np_table.proofs.row_cache.rows_with.Given as goal
-use Rattle.np_table.specs.RowCache.{row_with}
+use Rattle.np_table.specs.Prelude.{row_with}
 
 -- the rows of those so far
 abbrev pub invariant-loop-one : goal.invariant-loop-one

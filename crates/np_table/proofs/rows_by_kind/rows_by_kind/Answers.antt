@@ -1,13 +1,13 @@
 use Rattle.std.proofs.Common.{◌≡◌, ◌<◌, None, false, slice_index, ap, sym, refl, subst, ◌∙◌}
-use Rattle.np_fold.specs.Workloads.{Folding, folding_of}
+use Rattle.np_fold.specs.Prelude.{Folding, folding_of}
 use Rattle.np_kinds.proofs.KindNumbers.{kind-there, kind-within}
-use Rattle.np_kinds.specs.Between.{is_alone}
-use Rattle.np_model.specs.Lawful.{IsLawful}
+use Rattle.np_kinds.specs.Prelude.{is_alone}
+use Rattle.np_model.specs.Prelude.{IsLawful}
 use Rattle.np_table.proofs.KindLemmas.{IsCached-also, IsCached-same, none_kept, pair-counted, pair-due, pair_rows-alone, rows-kept}
 use Rattle.np_table.proofs.SetLemmas.{OnErr-from}
 use Rattle.np_table.proofs.SideLemmas.{silent-rows}
 use Rattle.np_table.proofs.rows_by_kind.rows_by_kind.Goals as goal
-use Rattle.np_table.specs.RowCache.{cached_at}
+use Rattle.np_table.specs.Prelude.{cached_at}
 
 pub returns-then-is_alone-clause-rows : goal.returns-then-is_alone-clause-rows
 returns-then-is_alone-clause-rows g c =

@@ -1,12 +1,10 @@
 use Rattle.std.proofs.Common.{arith, ap, ◌∙◌}
 use Rattle.std.proofs.lemmas.Result.{IfOk-weaker}
-use Rattle.np_table.specs.Types.{EstateLists, Family, RowKey}
-use Rattle.np_kinds.specs.Between.{between_pods}
-use Rattle.np_model.specs.Families.{families_of}
+use Rattle.np_table.specs.Prelude.{EstateLists, Family, RowKey, conns_of, rows_in}
+use Rattle.np_kinds.specs.Prelude.{between_pods}
+use Rattle.np_model.specs.Prelude.{families_of}
 use Rattle.np_table.proofs.SideLemmas.{sides-stand, stand-rows}
 use Rattle.np_table.proofs.rows_by_kind.rows_of_kinds.Goals as goal
-use Rattle.np_table.specs.Right.{conns_of}
-use Rattle.np_table.specs.Rows.{rows_in}
 
 pub rows_between-requires : goal.rows_between-requires
 rows_between-requires g c =

@@ -1,6 +1,5 @@
 use Rattle.std.proofs.Common.{◌≡◌, ◌++◌, map, take}
-use Rattle.np_table.specs.Right.{stretches_of}
-use Rattle.np_table.specs.Rows.{address_row, six_of}
+use Rattle.np_table.specs.Prelude.{address_row, six_of, stretches_of}
 use Rattle.np_table.proofs.rows_of_addresses.add_six.Given as goal
 
 -- the rows of the pieces so far stand behind those that were there

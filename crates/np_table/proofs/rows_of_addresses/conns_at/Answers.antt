@@ -1,4 +1,4 @@
-use Rattle.np_rules.specs.PodSides.{near_pod}
+use Rattle.np_rules.specs.Prelude.{near_pod}
 use Rattle.np_table.proofs.AddressLemmas.{stretches_of-four, stretches_of-six}
 use Rattle.np_table.proofs.SetLemmas.{IfOk-both}
 use Rattle.np_table.proofs.rows_of_addresses.conns_at.Goals as goal

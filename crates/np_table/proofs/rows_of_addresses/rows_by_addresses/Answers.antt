@@ -2,7 +2,7 @@ use Rattle.std.proofs.Common.{◌∙◌}
 use Rattle.std.proofs.lemmas.Result.{IfOk-weaker}
 use Rattle.np_table.proofs.AddressLemmas.{rows_of_addresses-made}
 use Rattle.np_table.proofs.rows_of_addresses.rows_by_addresses.Goals as goal
-use Rattle.np_table.specs.PairRules.{side_with_address}
+use Rattle.np_table.specs.Prelude.{side_with_address}
 
 pub returns-clause-rows : goal.returns-clause-rows
 returns-clause-rows g c =

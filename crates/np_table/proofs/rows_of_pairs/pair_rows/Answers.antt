@@ -1,14 +1,12 @@
 use Rattle.std.proofs.Common.{arith, ap, sym, ◌∙◌}
 use Rattle.std.proofs.lemmas.Result.{IfOk-weaker}
-use Rattle.np_table.specs.Types.{EstateLists, Family, RowKey}
-use Rattle.np_model.specs.Families.{families_of}
-use Rattle.np_fold.specs.Workloads.{folding_of}
+use Rattle.np_table.specs.Prelude.{EstateLists, Family, RowKey, conns_of, rows_in}
+use Rattle.np_model.specs.Prelude.{families_of}
+use Rattle.np_fold.specs.Prelude.{folding_of}
 use Rattle.np_table.proofs.KindLemmas.{pair_rows-alone}
 use Rattle.np_table.proofs.SideLemmas.{ends-are, ends-both, ends-count, ends-none, ends-rows}
 use Rattle.np_table.proofs.rows_of_pairs.pair_rows.Goals as goal
-use Rattle.np_table.specs.Right.{conns_of}
-use Rattle.np_table.specs.Rows.{rows_in}
-use Rattle.np_kinds.specs.Between.{between_pods}
+use Rattle.np_kinds.specs.Prelude.{between_pods}
 
 pub rows_between-requires : goal.rows_between-requires
 rows_between-requires g c =

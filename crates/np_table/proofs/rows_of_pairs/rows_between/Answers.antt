@@ -1,11 +1,9 @@
 use Rattle.std.proofs.Common.{◌++◌, List, None, ap, ◌∙◌}
 use Rattle.std.proofs.lemmas.Result.{IfOk-weaker}
-use Rattle.np_table.specs.Types.{Family, Row}
+use Rattle.np_table.specs.Prelude.{Family, Row, conns_of, row_if}
 use Rattle.np_table.proofs.SetLemmas.{rows_in-both, rows_in-one}
 use Rattle.np_table.proofs.rows_of_pairs.rows_between.Goals as goal
-use Rattle.np_table.specs.Right.{conns_of}
-use Rattle.np_table.specs.Rows.{row_if}
-use Rattle.np_kinds.specs.Between.{between_pods}
+use Rattle.np_kinds.specs.Prelude.{between_pods}
 
 pub returns-then-families-ne1-clause-rows : goal.returns-then-families-ne1-clause-rows
 returns-then-families-ne1-clause-rows g c =

@@ -1,7 +1,6 @@
 use Rattle.std.proofs.Common.{◌++◌, List, None, Some, sym, ap, ◌∙◌}
-use Rattle.np_table.specs.Types.{Four, Row, Six}
+use Rattle.np_table.specs.Prelude.{Four, Row, Six, row_if}
 use Rattle.np_table.proofs.SetLemmas.{rows_of_both-apart, rows_of_both-same}
-use Rattle.np_table.specs.Rows.{row_if}
 use Rattle.np_table.proofs.rows_of_pairs.rows_of_both.Goals as goal
 
 pub returns-then-same : goal.returns-then-same

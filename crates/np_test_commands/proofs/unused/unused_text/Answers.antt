@@ -2,8 +2,7 @@ use Rattle.std.specs.Prelude.{All, Contains}
 use Rattle.std.proofs.lemmas.List.Elements.{All-contains_itself, All-weaker}
 use Rattle.np_model.specs.declared.lists.EstateLists.{EstateLists}
 use Rattle.np_unused.proofs.LawLemmas.{unused_is}
-use Rattle.np_unused.specs.Rules.{IsRuleOf}
-use Rattle.np_unused.specs.Used.{unused_of}
+use Rattle.np_unused.specs.Prelude.{IsRuleOf, unused_of}
 use Rattle.np_test_commands.proofs.unused.unused_text.Goals as goal
 
 -- an unused rule is one of the estate

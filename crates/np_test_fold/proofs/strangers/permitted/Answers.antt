@@ -2,7 +2,7 @@ use Rattle.std.proofs.Common.{ap, ◌∙◌}
 use Rattle.std.specs.List.{list_any}
 use Rattle.std.proofs.lemmas.List.{take_all}
 use Rattle.std.proofs.lemmas.Result.{IfOk-weaker}
-use Rattle.np_conns.specs.Conns.{has_spot}
+use Rattle.np_conns.specs.Prelude.{has_spot}
 use Rattle.np_test_fold.proofs.strangers.permitted.Goals as goal
 
 pub returns : goal.returns

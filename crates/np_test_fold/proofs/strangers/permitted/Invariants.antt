@@ -1,10 +1,8 @@
 use Rattle.std.proofs.Common.{◌≡◌, take}
 use Rattle.std.specs.List.{list_any}
-use Rattle.np_conns.specs.Conns.{has_spot}
+use Rattle.np_conns.specs.Prelude.{has_spot}
 use Rattle.np_conns.specs.declared.port_spot.PortSpot.{PortSpot}
-use Rattle.np_rules.specs.model.Ends.{pod, stranger_end}
-use Rattle.np_rules.specs.PodSides.{near_pod}
-use Rattle.np_rules.specs.StrangerRules.{kept_matches}
+use Rattle.np_rules.specs.Prelude.{kept_matches, near_pod, pod, stranger_end}
 use Rattle.np_test_fold.proofs.strangers.permitted.Given as goal
 
 -- the sets so far are those of the matching rules so far

@@ -1,6 +1,5 @@
 use Rattle.std.proofs.Common.{Bool, ap, ◌∙◌}
-use Rattle.np_tiers.specs.Entries.{mark_if}
-use Rattle.np_tiers.specs.Marks.{mark_of}
+use Rattle.np_tiers.specs.Prelude.{mark_if, mark_of}
 use Rattle.np_tiers.proofs.Exact.{exact_entry}
 use Rattle.np_tiers.proofs.carving.carve.Goals as goal
 

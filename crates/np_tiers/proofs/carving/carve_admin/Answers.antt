@@ -1,5 +1,5 @@
 use Rattle.std.proofs.Common.{◌≡◌, ◌<◌, ◌≤◌, length, get_or, Some, None}
-use Rattle.np_tiers.specs.Entries.{admin_place}
+use Rattle.np_tiers.specs.Prelude.{admin_place}
 use Rattle.np_tiers.proofs.FirstMatch.{carved_more, carved_all}
 use Rattle.np_tiers.proofs.Tiers.{admin_tier}
 use Rattle.np_tiers.proofs.carving.carve_admin.Goals as goal

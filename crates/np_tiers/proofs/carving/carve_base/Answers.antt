@@ -1,6 +1,5 @@
 use Rattle.std.proofs.Common.{◌≡◌, ap}
-use Rattle.np_tiers.specs.Entries.{admin_place}
-use Rattle.np_tiers.specs.Types.{Base, Free}
+use Rattle.np_tiers.specs.Prelude.{Base, Free, admin_place}
 use Rattle.np_tiers.proofs.FirstMatch.{carved_more, carved_all}
 use Rattle.np_tiers.proofs.Places.{lower_place}
 use Rattle.np_tiers.proofs.Tiers.{base_tier}

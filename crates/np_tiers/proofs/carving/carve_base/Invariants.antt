@@ -1,5 +1,5 @@
 use Rattle.std.proofs.Common.{◌≡◌}
-use Rattle.np_tiers.specs.Entries.{admin_place}
+use Rattle.np_tiers.specs.Prelude.{admin_place}
 use Rattle.np_tiers.proofs.FirstMatch.{IsCarvedUpTo}
 use Rattle.np_tiers.proofs.Tiers.{base_tier}
 use Rattle.np_tiers.proofs.carving.carve_base.Given as goal

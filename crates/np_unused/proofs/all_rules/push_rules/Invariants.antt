@@ -1,5 +1,5 @@
 use Rattle.std.proofs.Common.{◌≡◌, ◌++◌}
-use Rattle.np_unused.specs.Rules.{rules_from}
+use Rattle.np_unused.specs.Prelude.{rules_from}
 use Rattle.np_unused.proofs.all_rules.push_rules.Given as goal
 
 abbrev pub invariant-loop-place : goal.invariant-loop-place

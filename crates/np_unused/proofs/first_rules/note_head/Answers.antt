@@ -2,7 +2,7 @@ use Rattle.std.proofs.Common.{◌≡◌, ◌<◌, true, length, subst, sym, arit
 use Rattle.std.proofs.lemmas.Grind.{common_steps}
 use Rattle.std.proofs.lemmas.Result.{IfOk-weaker}
 use Rattle.np_unused.proofs.NoteLemmas.{head_only}
-use Rattle.np_unused.specs.Types.{RuleSpots}
+use Rattle.np_unused.specs.Prelude.{RuleSpots}
 use Rattle.np_unused.proofs.first_rules.note_head.Goals as goal
 
 pub returns-clause-only : goal.returns-clause-only

@@ -1,7 +1,7 @@
 use Rattle.std.proofs.Common.{◌&&◌, sym, ◌∙◌}
 use Rattle.std.proofs.lemmas.Result.{IfOk-weaker}
 use Rattle.np_unused.proofs.NoteLemmas.{noted_after, tier_known, tier_noted}
-use Rattle.np_unused.specs.steps.Firsts.{first_at, hands_down}
+use Rattle.np_unused.specs.Prelude.{first_at, hands_down}
 use Rattle.np_unused.proofs.first_rules.note_tier.Goals as goal
 
 pub note_head-requires : goal.note_head-requires

@@ -1,5 +1,5 @@
 use Rattle.std.proofs.Common.{◌≡◌, ℕ, length, ◌+◌, ◌-◌}
-use Rattle.np_unused.specs.steps.Known.{flag_of}
+use Rattle.np_unused.specs.Prelude.{flag_of}
 use Rattle.np_unused.proofs.flags.make_places.Given as goal
 
 abbrev pub invariant-loop-row : goal.invariant-loop-row

@@ -1,5 +1,5 @@
 use Rattle.std.proofs.Common.{◌≡◌, ℕ, length, ◌+◌, ◌-◌}
-use Rattle.np_unused.specs.steps.Known.{flag_in}
+use Rattle.np_unused.specs.Prelude.{flag_in}
 use Rattle.np_unused.proofs.flags.make_rows.Given as goal
 
 abbrev pub invariant-loop-alloc : goal.invariant-loop-alloc

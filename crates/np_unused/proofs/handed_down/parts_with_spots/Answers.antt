@@ -2,9 +2,8 @@ use Rattle.std.proofs.Common.{◌≡◌, List, [], ◌++◌, sym, ap, ◌∙◌,
 use Rattle.std.proofs.lemmas.Grind.{common_steps}
 use Rattle.std.proofs.lemmas.List.{append-nil}
 use Rattle.np_unused.proofs.FirstLemmas.{hands_down-without}
-use Rattle.np_unused.specs.steps.Firsts.{hands_down}
+use Rattle.np_unused.specs.Prelude.{AdminPart, hands_down}
 use Rattle.np_unused.proofs.handed_down.parts_with_spots.Goals as goal
-use Rattle.np_unused.specs.Types.{AdminPart}
 
 pub loop-part-preserved : goal.loop-part-preserved
 loop-part-preserved g c = λ spot.

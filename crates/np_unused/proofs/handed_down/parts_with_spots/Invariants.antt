@@ -1,5 +1,5 @@
 use Rattle.std.proofs.Common.{◌≡◌, ◌++◌}
-use Rattle.np_unused.specs.steps.Firsts.{hands_down}
+use Rattle.np_unused.specs.Prelude.{hands_down}
 use Rattle.np_unused.proofs.handed_down.parts_with_spots.Given as goal
 
 -- the parts kept so far and those that are not looked at yet hand down what all of them do

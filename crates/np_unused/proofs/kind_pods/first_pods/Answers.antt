@@ -1,10 +1,10 @@
 use Rattle.std.proofs.Common.{◌≡◌, ◌∙◌, List, ap, false, get_or, ℕ, arith}
 use Rattle.std.proofs.lemmas.Bool.{false≢true}
-use Rattle.np_fold.specs.Workloads.{Folding, folding_of}
-use Rattle.np_kinds.specs.Between.{source_pod}
+use Rattle.np_fold.specs.Prelude.{Folding, folding_of}
+use Rattle.np_kinds.specs.Prelude.{source_pod}
 use Rattle.np_unused.proofs.KindStepLemmas.{count_more, each_more, first_workload}
 use Rattle.np_unused.proofs.kind_pods.first_pods.Goals as goal
-use Rattle.np_unused.specs.Types.{KindPod}
+use Rattle.np_unused.specs.Prelude.{KindPod}
 
 pub first_place-pod-requires : goal.first_place-pod-requires
 first_place-pod-requires c = first_workload c.args.folded.now c.first_of_kinds-workload-items.result.now c.loop-workload.workload-index

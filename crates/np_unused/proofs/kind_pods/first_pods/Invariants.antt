@@ -1,7 +1,6 @@
 use Rattle.std.proofs.Common.{◌≡◌, ℕ, Some, length, slice_get}
 use Rattle.np_unused.proofs.kind_pods.first_pods.Given as goal
-use Rattle.np_unused.specs.Types.{KindPod}
-use Rattle.np_unused.specs.steps.Kinds.{IsKindPodOf}
+use Rattle.np_unused.specs.Prelude.{IsKindPodOf, KindPod}
 
 -- each kind so far has its pod
 abbrev pub invariant-loop-workload : goal.invariant-loop-workload

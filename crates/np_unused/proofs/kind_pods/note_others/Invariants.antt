@@ -1,5 +1,5 @@
 use Rattle.np_unused.proofs.kind_pods.note_others.Given as goal
-use Rattle.np_unused.specs.steps.Kinds.{AreKindPodsOf}
+use Rattle.np_unused.specs.Prelude.{AreKindPodsOf}
 
 -- the pods so far
 abbrev pub invariant-loop-pod : goal.invariant-loop-pod

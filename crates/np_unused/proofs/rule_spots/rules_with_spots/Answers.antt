@@ -3,8 +3,7 @@ use Rattle.std.proofs.lemmas.List.{take_all}
 use Rattle.std.proofs.lemmas.List.Elements.{All-push}
 use Rattle.std.proofs.lemmas.Option.{slice_get-get_or, slice_get_past}
 use Rattle.np_unused.proofs.FirstLemmas.{part_passed, part_pushed}
-use Rattle.np_unused.specs.Types.{RuleId, RuleSpots}
-use Rattle.np_unused.specs.steps.Firsts.{first_at}
+use Rattle.np_unused.specs.Prelude.{RuleId, RuleSpots, first_at}
 use Rattle.np_unused.proofs.rule_spots.rules_with_spots.Goals as goal
 use Rattle.np_unused.proofs.rule_spots.rules_with_spots.Goals.{then-place-ids+then-not-is_empty+in_ok-push, else-place-ids, else-place-ids-via-then-place-ids+else-not-is_empty, else-place-ids-via-else-place-ids}
 

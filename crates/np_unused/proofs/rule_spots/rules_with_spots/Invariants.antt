@@ -1,5 +1,5 @@
 use Rattle.std.proofs.Common.{◌≡◌, true, All, take}
-use Rattle.np_unused.specs.steps.Firsts.{first_at, first_rule}
+use Rattle.np_unused.specs.Prelude.{first_at, first_rule}
 use Rattle.np_unused.proofs.rule_spots.rules_with_spots.Given as goal
 
 -- the parts so far

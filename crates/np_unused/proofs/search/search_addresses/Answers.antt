@@ -1,8 +1,7 @@
 use Rattle.std.proofs.lemmas.Result.{IfOk-weaker}
 use Rattle.np_unused.proofs.SearchLemmas.{layer_searched}
 use Rattle.np_unused.proofs.search.search_addresses.Goals as goal
-use Rattle.np_rules.specs.EveryAddress.{has_address_spot, is_address_spot}
-use Rattle.np_rules.specs.PodSides.{with_addresses}
+use Rattle.np_rules.specs.Prelude.{has_address_spot, is_address_spot, with_addresses}
 
 pub returns-clause-searched : goal.returns-clause-searched
 returns-clause-searched g c =

@@ -2,11 +2,9 @@ use Rattle.std.proofs.Common.{◌∙◌, ap}
 use Rattle.std.proofs.lemmas.Result.{IfOk-weaker}
 use Rattle.np_unused.proofs.StepLemmas.{all_known_of, knows_all_grows, not_searched, searched_both}
 use Rattle.np_unused.proofs.search.search_ends.Goals as goal
-use Rattle.np_unused.specs.steps.Search.{KnowsAll, KnowsFamilies, KnowsSide}
-use Rattle.np_model.specs.Families.{families_of}
-use Rattle.np_unused.specs.Types.{EstateLists}
-use Rattle.np_rules.specs.EveryAddress.{is_address_spot}
-use Rattle.np_rules.specs.PodSides.{with_addresses}
+use Rattle.np_unused.specs.Prelude.{EstateLists, KnowsAll, KnowsFamilies, KnowsSide}
+use Rattle.np_model.specs.Prelude.{families_of}
+use Rattle.np_rules.specs.Prelude.{is_address_spot, with_addresses}
 
 pub returns-then-has_all-clause-searched : goal.returns-then-has_all-clause-searched
 returns-then-has_all-clause-searched g c =

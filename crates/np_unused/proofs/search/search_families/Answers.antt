@@ -1,11 +1,10 @@
 use Rattle.std.proofs.Common.{get_or, arith, Some, List, ap, subst, sym, ◌∙◌}
 use Rattle.std.specs.List.{Contains}
 use Rattle.std.proofs.lemmas.Option.{get_or_from_slice_get, slice_get-get_or}
-use Rattle.np_unused.specs.Types.{Family}
+use Rattle.np_unused.specs.Prelude.{Family, KnowsFamilies, KnowsPods}
 use Rattle.np_addr.specs.declared.address.Family.TheVariants.{Four}
 use Rattle.np_unused.proofs.StepLemmas.{Below, KnowsFamily, knows_pods_grows, more_searched, none_searched, searched_as}
 use Rattle.np_unused.proofs.search.search_families.Goals as goal
-use Rattle.np_unused.specs.steps.Search.{KnowsFamilies, KnowsPods}
 
 pub loop-family-init : goal.loop-family-init
 loop-family-init g c =

@@ -1,7 +1,7 @@
 use Rattle.std.proofs.Common.{◌≤◌}
 use Rattle.np_unused.proofs.StepLemmas.{Below, KnowsFamily}
 use Rattle.np_unused.proofs.search.search_families.Given as goal
-use Rattle.np_unused.specs.steps.Search.{Searched}
+use Rattle.np_unused.specs.Prelude.{Searched}
 
 -- the families so far
 abbrev pub invariant-loop-family : goal.invariant-loop-family

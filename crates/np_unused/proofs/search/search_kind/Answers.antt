@@ -1,15 +1,14 @@
 use Rattle.std.proofs.Common.{◌≡◌, slice_get, subst, Some, sym, ◌∙◌}
 use Rattle.std.proofs.lemmas.Bool.{and_parts}
 use Rattle.std.proofs.lemmas.Result.{IfOk-weaker}
-use Rattle.np_conns.specs.Conns.{has_spot, is_spot}
+use Rattle.np_conns.specs.Prelude.{has_spot, is_spot}
 use Rattle.np_unused.proofs.KindPodLemmas.{own_kind}
 use Rattle.np_unused.proofs.QuietLemmas.{quiet_kind}
 use Rattle.np_unused.proofs.SearchLemmas.{layer_searched}
 use Rattle.np_unused.proofs.StepLemmas.{kind_at, kind_is, not_searched, pod_of_kind, searched_as}
 use Rattle.np_unused.proofs.search.search_kind.Goals as goal
-use Rattle.np_unused.specs.Types.{KindPod}
-use Rattle.np_unused.specs.steps.Search.{KnowsAll, KnowsFar, PodsAreUsed}
-use Rattle.np_rules.specs.PodSides.{with_pod}
+use Rattle.np_unused.specs.Prelude.{KindPod, KnowsAll, KnowsFar, PodsAreUsed}
+use Rattle.np_rules.specs.Prelude.{with_pod}
 
 pub returns-then-not-may_tell-clause-searched : goal.returns-then-not-may_tell-clause-searched
 returns-then-not-may_tell-clause-searched g c =

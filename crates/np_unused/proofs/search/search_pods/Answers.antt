@@ -1,7 +1,7 @@
 use Rattle.std.proofs.Common.{arith}
 use Rattle.np_unused.proofs.StepLemmas.{Below, all_kinds, all_pods_known, knows_far_grows, more_searched, none_searched, searched_as}
 use Rattle.np_unused.proofs.search.search_pods.Goals as goal
-use Rattle.np_unused.specs.steps.Search.{KnowsFar, KnowsPods}
+use Rattle.np_unused.specs.Prelude.{KnowsFar, KnowsPods}
 
 pub loop-kind-init : goal.loop-kind-init
 loop-kind-init g c =

@@ -1,7 +1,7 @@
 use Rattle.std.proofs.Common.{◌≤◌}
 use Rattle.np_unused.proofs.StepLemmas.{Below}
 use Rattle.np_unused.proofs.search.search_pods.Given as goal
-use Rattle.np_unused.specs.steps.Search.{KnowsFar, Searched}
+use Rattle.np_unused.specs.Prelude.{KnowsFar, Searched}
 
 -- the kinds so far
 abbrev pub invariant-loop-kind : goal.invariant-loop-kind

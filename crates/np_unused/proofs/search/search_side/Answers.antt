@@ -4,8 +4,8 @@ use Rattle.np_unused.proofs.KindPodLemmas.{own_kind}
 use Rattle.np_unused.proofs.QuietLemmas.{search_is, searched_side}
 use Rattle.np_unused.proofs.StepLemmas.{kind_at, pod_of_kind}
 use Rattle.np_unused.proofs.search.search_side.Goals as goal
-use Rattle.np_model.specs.Lawful.{IsFew}
-use Rattle.np_rules.specs.PodSides.{PodSide}
+use Rattle.np_model.specs.Prelude.{IsFew}
+use Rattle.np_rules.specs.Prelude.{PodSide}
 
 pub of-requires : goal.of-requires
 of-requires g c =

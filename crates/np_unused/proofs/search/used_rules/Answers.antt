@@ -3,7 +3,7 @@ use Rattle.std.proofs.lemmas.Option.{slice_get_within}
 use Rattle.np_unused.proofs.FindLemmas.{finds_all}
 use Rattle.np_unused.proofs.StepLemmas.{knows_kind_grows, more_searched, none_searched, nothing_sound}
 use Rattle.np_unused.proofs.search.used_rules.Goals as goal
-use Rattle.np_unused.specs.steps.Search.{KnowsKind, KnowsSides}
+use Rattle.np_unused.specs.Prelude.{KnowsKind, KnowsSides}
 
 pub loop-near-init : goal.loop-near-init
 loop-near-init g c = record {

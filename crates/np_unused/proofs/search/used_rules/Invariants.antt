@@ -1,7 +1,7 @@
 use Rattle.std.proofs.Common.{◌≤◌}
 use Rattle.np_unused.proofs.StepLemmas.{Below}
 use Rattle.np_unused.proofs.search.used_rules.Given as goal
-use Rattle.np_unused.specs.steps.Search.{KnowsKind, Searched}
+use Rattle.np_unused.specs.Prelude.{KnowsKind, Searched}
 
 -- the kinds so far
 abbrev pub invariant-loop-near : goal.invariant-loop-near

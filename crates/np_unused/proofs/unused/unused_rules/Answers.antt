@@ -1,9 +1,7 @@
 use Rattle.std.proofs.Common.{List, ap, ◌∙◌, filter, not}
 use Rattle.np_unused.proofs.RuleListLemmas.{unknown_is_unused}
 use Rattle.np_unused.proofs.unused.unused_rules.Goals as goal
-use Rattle.np_unused.specs.Rules.{all_rules}
-use Rattle.np_unused.specs.Types.{RuleRef}
-use Rattle.np_unused.specs.steps.Search.{is_known_by}
+use Rattle.np_unused.specs.Prelude.{RuleRef, all_rules, is_known_by}
 
 pub returns-clause-rules : goal.returns-clause-rules
 returns-clause-rules g c =

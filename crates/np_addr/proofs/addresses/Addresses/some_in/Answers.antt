@@ -1,6 +1,6 @@
 use Rattle.std.proofs.Common.{rules, ◌-◌}
 use Rattle.std.proofs.lemmas.List.Sorted.{list_any-IsPermutation}
-use Rattle.np_addr.specs.Numbers.{is_covered}
+use Rattle.np_addr.specs.Prelude.{is_covered}
 use Rattle.np_addr.proofs.NumberLemmas.{any-four, any-six}
 use Rattle.np_addr.proofs.addresses.Addresses.some_in.Goals as goal
 

@@ -1,6 +1,6 @@
 use Rattle.std.proofs.Common.{◌∙◌, ap, option_map, sym}
 use Rattle.np_args.proofs.ValueLemmas.{end_of-address, has_slash}
-use Rattle.np_args.specs.Types.{At}
+use Rattle.np_args.specs.Prelude.{At}
 use Rattle.np_args.proofs.end_word.EndWord.of.Goals as goal
 
 pub returns-in-Ok-clause-end : goal.returns-in-Ok-clause-end

@@ -1,10 +1,10 @@
 use Rattle.std.proofs.Common.{◌∙◌, None, Some, codes, refl}
 use Rattle.clap.specs.Matches.{found_of}
 use Rattle.clap.specs.Walk.{rows_of}
-use Rattle.np_conns.specs.ConnsText.{proto_named}
+use Rattle.np_conns.specs.Prelude.{proto_named}
 use Rattle.np_args.proofs.AskedLemmas.{value_read}
 use Rattle.np_args.proofs.EvaluateLemmas.{evaluate_of-values}
-use Rattle.np_args.specs.Values.{port_of}
+use Rattle.np_args.specs.Prelude.{port_of}
 use Rattle.np_args.proofs.evaluate_words.EvaluateWordsCommandWords.job.Goals as goal
 
 pub returns-in_err-proto-clause-usage : goal.returns-in_err-proto-clause-usage

@@ -3,7 +3,7 @@ use Rattle.clap.specs.Matches.{found_of}
 use Rattle.clap.specs.Walk.{rows_of}
 use Rattle.np_args.proofs.AskedLemmas.{value_read}
 use Rattle.np_args.proofs.ListLemmas.{list_of-values}
-use Rattle.np_args.specs.Values.{format_of, report_of, side_of}
+use Rattle.np_args.specs.Prelude.{format_of, report_of, side_of}
 use Rattle.np_args.proofs.list_words.ListWordsCommandWords.job.Goals as goal
 
 pub returns-in_err-format-clause-usage : goal.returns-in_err-format-clause-usage

@@ -2,7 +2,7 @@ use Rattle.std.proofs.Common.{◌≡◌, ◌∙◌, [], ap, codes, true}
 use Rattle.std.proofs.lemmas.Result.{IfOk-weaker}
 use Rattle.clap.specs.Simple.{Shape, app_of, app_of_fields, on_top}
 use Rattle.np_args.proofs.AskedLemmas.{added}
-use Rattle.np_args.specs.Arguments.{command_of}
+use Rattle.np_args.specs.Prelude.{command_of}
 use Rattle.np_args.proofs.list_words.ListWordsCommandWords.line.Goals as goal
 
 pub returns : goal.returns

@@ -1,8 +1,7 @@
 use Rattle.std.proofs.Common.{◌∙◌, Bor, Option, ap, codes, option_and_then, option_map, sym}
 use Rattle.clap.specs.Matches.{found_of}
 use Rattle.np_args.proofs.AskedLemmas.{value_in-found}
-use Rattle.np_args.specs.Values.{Text, count_of}
-use Rattle.np_args.specs.Types.{Sample as SampleJob}
+use Rattle.np_args.specs.Prelude.{Sample as SampleJob, Text, count_of}
 use Rattle.np_args.proofs.sample_words.SampleWordsCommandWords.job.Goals as goal
 
 pub returns-in_err-word-clause-usage : goal.returns-in_err-word-clause-usage

@@ -1,7 +1,7 @@
 use Rattle.std.proofs.Common.{◌∙◌}
 use Rattle.np_check.proofs.SpotLemmas.{first_spot-same}
-use Rattle.np_check.specs.Counterexamples.{breaks}
-use Rattle.np_conns.specs.Conns.{has_spot}
+use Rattle.np_check.specs.Prelude.{breaks}
+use Rattle.np_conns.specs.Prelude.{has_spot}
 use Rattle.np_check.proofs.asked.Asked.first_broken.Goals as goal
 
 pub returns : goal.returns

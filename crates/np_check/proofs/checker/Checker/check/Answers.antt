@@ -1,11 +1,9 @@
 use Rattle.std.proofs.Common.{◌≡◌, ℕ, Option, List, sym, ap, ◌∙◌}
 use Rattle.std.specs.Option.{option_or}
 use Rattle.std.proofs.lemmas.Result.{IfOk-weaker}
-use Rattle.np_check.specs.Types.{Address, At, Counterexample, EstateLists, Work}
+use Rattle.np_check.specs.Prelude.{Address, At, Counterexample, EstateLists, Work, addresses_of, counterexample_between, counterexample_from, counterexample_of, first_of}
 use Rattle.np_check.proofs.PairLemmas.{none_or, some_or}
 use Rattle.np_check.proofs.WholeLemmas.{of-question}
-use Rattle.np_check.specs.Counterexamples.{addresses_of, counterexample_between, counterexample_from, counterexample_of}
-use Rattle.np_check.specs.Firsts.{first_of}
 use Rattle.np_check.proofs.checker.Checker.check.Goals as goal
 
 pub returns-then-is_some-clause-counterexample : goal.returns-then-is_some-clause-counterexample

@@ -1,5 +1,5 @@
 use Rattle.std.proofs.lemmas.Bool.{false≢true}
-use Rattle.np_conns.specs.Types.{Sctp, Tcp, Udp}
+use Rattle.np_conns.specs.Prelude.{Sctp, Tcp, Udp}
 use Rattle.np_conns.proofs.conn_set.ConnSetCells.copy.Goals as goal
 
 pub returns-in_err-copy-clause-succeeds : goal.returns-in_err-copy-clause-succeeds

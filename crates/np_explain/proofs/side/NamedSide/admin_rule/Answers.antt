@@ -2,8 +2,8 @@ use Rattle.std.proofs.Common.{◌<◌, length, ap, ◌∙◌, rules}
 use Rattle.std.proofs.lemmas.Result.{IfOk-weaker}
 use Rattle.np_explain.proofs.SideLemmas.{admin_at, admin_policy_within, admin_within, keeps}
 use Rattle.np_explain.proofs.side.NamedSide.admin_rule.Goals as goal
-use Rattle.np_explain.specs.Types.{EstateLists}
-use Rattle.np_rules.specs.PodSides.{PodSide}
+use Rattle.np_explain.specs.Prelude.{EstateLists}
+use Rattle.np_rules.specs.Prelude.{PodSide}
 
 pub bounds-items-place : goal.bounds-items-place
 bounds-items-place c = admin_within (keeps c.self.invariant.names c.self.view_is) c.args.place c.items.result.now c.items.ensures c.requires

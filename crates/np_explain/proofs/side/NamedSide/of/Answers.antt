@@ -1,7 +1,7 @@
 use Rattle.std.proofs.Common.{ap, ◌∙◌}
 use Rattle.np_explain.proofs.SideLemmas.{isolating_named, isolating_within}
 use Rattle.np_explain.proofs.side.NamedSide.of.Goals as goal
-use Rattle.np_explain.specs.Types.{EstateLists}
+use Rattle.np_explain.specs.Prelude.{EstateLists}
 
 pub net_policy_names-requires : goal.net_policy_names-requires
 net_policy_names-requires c =

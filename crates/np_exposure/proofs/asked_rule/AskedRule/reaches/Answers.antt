@@ -2,8 +2,7 @@ use Rattle.std.proofs.Common.{true, sym, ◌∙◌, subst}
 use Rattle.std.proofs.lemmas.Bool.{not-true}
 use Rattle.std.specs.Str.{bytes_eq}
 use Rattle.np_exposure.proofs.OnlyNamespaceLemmas.{is-elsewhere}
-use Rattle.np_exposure.specs.steps.OnlyNamespace.{AreOfNamespace}
-use Rattle.np_exposure.specs.Types.{RuleConns}
+use Rattle.np_exposure.specs.Prelude.{AreOfNamespace, RuleConns}
 use Rattle.np_exposure.proofs.asked_rule.AskedRule.reaches.Goals as goal
 
 pub returns-in-Some : goal.returns-in-Some

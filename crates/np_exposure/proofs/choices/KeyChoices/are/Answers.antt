@@ -1,7 +1,7 @@
 use Rattle.std.proofs.Common.{[], ap, unwrap_or}
 use Rattle.std.specs.Option.{option_map}
 use Rattle.np_exposure.proofs.SettledLemmas.{all-choices, no-choice}
-use Rattle.np_exposure.specs.Choices.{Choices}
+use Rattle.np_exposure.specs.Prelude.{Choices}
 use Rattle.std.specs.Str.{bytes_eq}
 use Rattle.np_exposure.proofs.choices.KeyChoices.are.Goals as goal
 

@@ -1,9 +1,7 @@
 use Rattle.std.proofs.Common.{ap, map, None, ◌∙◌}
 use Rattle.std.specs.Option.{option_map}
 use Rattle.np_exposure.proofs.StateLemmas.{any-mapped, suits-by}
-use Rattle.np_exposure.specs.Weight.{looks_at}
-use Rattle.np_exposure.specs.Choices.{Choices}
-use Rattle.np_exposure.specs.steps.States.{suits}
+use Rattle.np_exposure.specs.Prelude.{Choices, looks_at, suits}
 use Rattle.np_exposure.proofs.choices.KeyChoices.can_be.Goals as goal
 
 pub returns-then-suits : goal.returns-then-suits

@@ -1,7 +1,7 @@
 use Rattle.std.proofs.Common.{◌≡◌, false, map, take}
 use Rattle.std.specs.List.{list_any}
 use Rattle.std.specs.Option.{option_map}
-use Rattle.np_exposure.specs.steps.States.{suits}
+use Rattle.np_exposure.specs.Prelude.{suits}
 use Rattle.np_exposure.proofs.choices.KeyChoices.can_be.Given as goal
 
 -- none of those so far is as wanted

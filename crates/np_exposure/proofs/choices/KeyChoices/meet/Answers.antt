@@ -1,8 +1,8 @@
 use Rattle.std.proofs.Common.{ap}
 use Rattle.std.specs.Option.{option_map}
 use Rattle.np_exposure.proofs.SettledLemmas.{all-choices, no-choice}
-use Rattle.np_exposure.specs.Choices.{Choices}
-use Rattle.np_labels.specs.Selectors.{allows}
+use Rattle.np_exposure.specs.Prelude.{Choices}
+use Rattle.np_labels.specs.Prelude.{allows}
 use Rattle.np_exposure.proofs.choices.KeyChoices.meet.Goals as goal
 
 pub returns-then-all_meet : goal.returns-then-all_meet

@@ -1,6 +1,6 @@
 use Rattle.std.proofs.Common.{◌≡◌, filter, map, take}
 use Rattle.std.specs.Option.{option_map}
-use Rattle.np_exposure.specs.steps.States.{suits}
+use Rattle.np_exposure.specs.Prelude.{suits}
 use Rattle.np_exposure.proofs.choices.KeyChoices.narrowed.Given as goal
 
 abbrev pub invariant-loop-choice : goal.invariant-loop-choice

@@ -1,7 +1,6 @@
 use Rattle.std.proofs.Common.{ap, ◌∙◌}
 use Rattle.np_exposure.proofs.SameLemmas.{is_same-tells}
-use Rattle.np_exposure.specs.Mentions.{is_same}
-use Rattle.np_exposure.specs.Types.{SidedRequirement}
+use Rattle.np_exposure.specs.Prelude.{SidedRequirement, is_same}
 use Rattle.np_exposure.proofs.open_row.LentSame.is_same.Goals as goal
 
 pub returns : goal.returns

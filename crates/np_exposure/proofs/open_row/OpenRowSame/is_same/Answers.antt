@@ -1,6 +1,6 @@
 use Rattle.std.proofs.Common.{ap}
 use Rattle.np_exposure.proofs.SameLemmas.{rows-differ}
-use Rattle.np_exposure.specs.Types.{ExposureRow}
+use Rattle.np_exposure.specs.Prelude.{ExposureRow}
 use Rattle.np_exposure.proofs.open_row.OpenRowSame.is_same.Goals as goal
 
 pub returns-else-are_same : goal.returns-else-are_same

@@ -1,12 +1,11 @@
 use Rattle.std.proofs.Common.{◌||◌, ap, ◌∙◌}
 use Rattle.std.specs.List.{list_any}
 use Rattle.std.proofs.Math.Bool.{or-false}
-use Rattle.np_conns.specs.Conns.{has_spot}
+use Rattle.np_conns.specs.Prelude.{has_spot}
 use Rattle.np_exposure.proofs.SettledLemmas.{all-rules}
-use Rattle.np_exposure.specs.steps.Settled.{rule_matches}
+use Rattle.np_exposure.specs.Prelude.{rule_matches}
 use Rattle.np_exposure.proofs.open_rules.OpenRules.copy.Goals as goal
-use Rattle.np_rules.specs.model.Ends.{pod, stranger_end}
-use Rattle.np_rules.specs.StrangerRules.{kept_matches}
+use Rattle.np_rules.specs.Prelude.{kept_matches, pod, stranger_end}
 
 pub returns : goal.returns
 returns c = λ namespace s spot.

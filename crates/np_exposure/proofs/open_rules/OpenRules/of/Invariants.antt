@@ -1,6 +1,6 @@
 use Rattle.std.proofs.Common.{◌≡◌, Bool, take}
 use Rattle.std.specs.List.{list_any}
-use Rattle.np_exposure.specs.Types.{RuleConns}
+use Rattle.np_exposure.specs.Prelude.{RuleConns}
 use Rattle.np_exposure.proofs.open_rules.OpenRules.of.Given as goal
 
 -- the open rules are those so far

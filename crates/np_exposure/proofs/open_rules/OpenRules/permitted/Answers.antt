@@ -1,7 +1,7 @@
 use Rattle.std.proofs.Common.{ap, ◌∙◌}
 use Rattle.std.specs.List.{list_any}
 use Rattle.std.proofs.lemmas.Result.{IfOk-weaker}
-use Rattle.np_conns.specs.Conns.{has_spot}
+use Rattle.np_conns.specs.Prelude.{has_spot}
 use Rattle.np_exposure.proofs.SettledLemmas.{all-rules}
 use Rattle.np_exposure.proofs.open_rules.OpenRules.permitted.Goals as goal
 

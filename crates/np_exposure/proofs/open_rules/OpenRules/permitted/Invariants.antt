@@ -1,9 +1,8 @@
 use Rattle.std.proofs.Common.{◌≡◌, ◌||◌, take}
 use Rattle.std.specs.List.{list_any}
-use Rattle.np_conns.specs.Conns.{has_spot}
-use Rattle.np_exposure.specs.Types.{PortSpot}
-use Rattle.np_rules.specs.model.Ends.{pod, stranger_end}
-use Rattle.np_rules.specs.StrangerRules.{kept_matches}
+use Rattle.np_conns.specs.Prelude.{has_spot}
+use Rattle.np_exposure.specs.Prelude.{PortSpot}
+use Rattle.np_rules.specs.Prelude.{kept_matches, pod, stranger_end}
 use Rattle.np_exposure.proofs.open_rules.OpenRules.permitted.Given as goal
 
 -- the sets are the settled one and those of the matching rules so far

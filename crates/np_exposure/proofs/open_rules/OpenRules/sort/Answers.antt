@@ -1,9 +1,9 @@
 use Rattle.std.proofs.Common.{◌||◌, Some, ap, ◌∙◌}
 use Rattle.std.specs.List.{list_any}
-use Rattle.np_conns.specs.Conns.{Conns, has_spot}
+use Rattle.np_conns.specs.Prelude.{Conns, has_spot}
 use Rattle.np_exposure.proofs.SettledLemmas.{all-rules, any-pushed, met-next, missed-next, open-next}
 use Rattle.np_exposure.proofs.open_rules.OpenRules.sort.Goals.{in-Some-true+in_ok-push-in-Some-true, in-Some-false, in-None+in_ok-push-in-None}
-use Rattle.np_exposure.specs.steps.Settled.{rule_matches}
+use Rattle.np_exposure.specs.Prelude.{rule_matches}
 use Rattle.np_exposure.proofs.open_rules.OpenRules.sort.Goals as goal
 
 pub loop-rule-preserved : goal.loop-rule-preserved

@@ -1,10 +1,8 @@
 use Rattle.std.proofs.Common.{◌≡◌, ◌||◌, take}
 use Rattle.std.specs.List.{list_any}
-use Rattle.np_conns.specs.Conns.{has_spot}
-use Rattle.np_exposure.specs.Types.{PortSpot, Stranger}
-use Rattle.np_exposure.specs.steps.States.{IsWitness}
-use Rattle.np_rules.specs.model.Ends.{pod, stranger_end}
-use Rattle.np_rules.specs.StrangerRules.{kept_matches}
+use Rattle.np_conns.specs.Prelude.{has_spot}
+use Rattle.np_exposure.specs.Prelude.{IsWitness, PortSpot, Stranger}
+use Rattle.np_rules.specs.Prelude.{kept_matches, pod, stranger_end}
 use Rattle.np_exposure.proofs.open_rules.OpenRules.sort.Given as goal
 
 -- the sets and the open rules permit together what the settled set and the rules so far do

@@ -1,7 +1,7 @@
 use Rattle.std.proofs.Common.{◌||◌, ap, ◌∙◌}
 use Rattle.std.specs.List.{list_any}
-use Rattle.np_conns.specs.Conns.{has_spot}
-use Rattle.np_exposure.specs.steps.Settled.{rule_matches}
+use Rattle.np_conns.specs.Prelude.{has_spot}
+use Rattle.np_exposure.specs.Prelude.{rule_matches}
 use Rattle.np_exposure.proofs.open_rules.OpenRules.with_settled.Goals as goal
 
 pub returns : goal.returns

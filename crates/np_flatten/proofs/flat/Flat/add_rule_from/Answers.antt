@@ -1,6 +1,6 @@
 use Rattle.std.proofs.Common.{[], ◌∷◌, ◌++◌, List, sym, ap, ◌∙◌}
-use Rattle.np_flatten.specs.Types.{NetPeer, NetRule}
-use Rattle.np_rules.specs.model.Ends.{pod_end}
+use Rattle.np_flatten.specs.Prelude.{NetPeer, NetRule}
+use Rattle.np_rules.specs.Prelude.{pod_end}
 use Rattle.np_flatten.proofs.PolicyFacts.{on_ok, rule-is}
 use Rattle.np_flatten.proofs.flat.Flat.add_rule_from.Goals as goal
 

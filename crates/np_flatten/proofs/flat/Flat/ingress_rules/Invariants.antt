@@ -1,7 +1,7 @@
 use Rattle.std.proofs.Common.{◌≡◌, ◌≤◌, flat_map}
 use Rattle.np_classes.specs.Classes.{places}
 use Rattle.np_flatten.proofs.flat.Flat.ingress_rules.Given as goal
-use Rattle.np_flatten.specs.Flat.{rules_from_group}
+use Rattle.np_flatten.specs.Prelude.{rules_from_group}
 
 -- the rules of the groups so far
 abbrev pub invariant-loop-sender : goal.invariant-loop-sender

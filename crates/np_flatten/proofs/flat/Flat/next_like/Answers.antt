@@ -1,11 +1,10 @@
 use Rattle.std.proofs.Common.{◌≡◌, ◌<◌, ◌-◌, ◌+◌, ◌==◌, ℕ, inl, inr, arith, sym, ap, ◌∙◌, eq-eqb}
 use Rattle.std.proofs.lemmas.Bool.{cases_eq, ne_eqb}
-use Rattle.np_flatten.specs.Types.{EstateLists}
+use Rattle.np_flatten.specs.Prelude.{EstateLists, group_of}
 use Rattle.np_flatten.proofs.FindFacts.{range-none, range-some}
 use Rattle.np_flatten.proofs.UnlikeFacts.{number-is, numbers-count}
 use Rattle.np_flatten.proofs.flat.Flat.next_like.Goals as goal
-use Rattle.np_flatten.specs.Groups.{group_of}
-use Rattle.np_kinds.specs.Between.{number_of_workloads}
+use Rattle.np_kinds.specs.Prelude.{number_of_workloads}
 
 pub overflow_step-other : goal.overflow_step-other
 overflow_step-other c = omega (arith, c.requires, ap number_of_workloads c.self.view_is, c.self.invariant.2)

@@ -1,4 +1,4 @@
-use Rattle.np_rules.specs.model.Ends.{pod_end}
+use Rattle.np_rules.specs.Prelude.{pod_end}
 use Rattle.np_flatten.proofs.PolicyFacts.{policy-is}
 use Rattle.np_flatten.proofs.flat.Flat.policy.Goals as goal
 

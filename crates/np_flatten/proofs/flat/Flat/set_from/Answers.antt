@@ -1,10 +1,8 @@
 use Rattle.std.proofs.Common.{ℕ, Some, sym, ap, ◌∙◌}
-use Rattle.np_conns.specs.Conns.{Conns}
-use Rattle.np_flatten.specs.Types.{EstateLists}
+use Rattle.np_conns.specs.Prelude.{Conns}
+use Rattle.np_flatten.specs.Prelude.{EstateLists, first_of_group, set_of}
 use Rattle.np_flatten.proofs.ReceiverFacts.{firsts-apart, set-cross}
 use Rattle.np_flatten.proofs.flat.Flat.set_from.Goals as goal
-use Rattle.np_flatten.specs.Faults.{set_of}
-use Rattle.np_flatten.specs.Groups.{first_of_group}
 
 pub between-requires-clause-apart : goal.between-requires-clause-apart
 between-requires-clause-apart g c = λ same. firsts-apart c.args.self.now c.args.sender c.args.group c.requires.sender c.requires.group c.if-sender-group.false

@@ -1,11 +1,10 @@
 use Rattle.std.proofs.Common.{◌<◌, None, Some, if◌then◌else◌, arith, sym, ap, subst, ◌∙◌}
-use Rattle.np_conns.specs.Conns.{Conns}
-use Rattle.np_flatten.specs.Types.{EstateLists}
-use Rattle.np_fold.specs.Workloads.{folding_of}
+use Rattle.np_conns.specs.Prelude.{Conns}
+use Rattle.np_flatten.specs.Prelude.{EstateLists, set_of}
+use Rattle.np_fold.specs.Prelude.{folding_of}
 use Rattle.np_flatten.proofs.ReceiverFacts.{alone-from, next-in, next-is, own-is}
 use Rattle.np_flatten.proofs.flat.Flat.set_within.Goals as goal
-use Rattle.np_flatten.specs.Faults.{set_of}
-use Rattle.np_kinds.specs.Between.{is_alone, number_of_workloads}
+use Rattle.np_kinds.specs.Prelude.{is_alone, number_of_workloads}
 
 pub returns-then-is_some-clause-set : goal.returns-then-is_some-clause-set
 returns-then-is_some-clause-set g c =

@@ -1,9 +1,8 @@
 use Rattle.std.proofs.Common.{ap, ◌∙◌}
 use Rattle.std.proofs.lemmas.Result.{IfOk-weaker}
-use Rattle.np_flatten.specs.Types.{EstateLists}
+use Rattle.np_flatten.specs.Prelude.{EstateLists, family_of_list, set_of}
 use Rattle.np_flatten.proofs.PassingFacts.{sides-set, silent-set}
 use Rattle.np_flatten.proofs.passing.Passing.between.Goals as goal
-use Rattle.np_flatten.specs.Faults.{family_of_list, set_of}
 use Rattle.np_table.proofs.SideLemmas.{sides-stand}
 
 pub returns-then-is_silent-clause-set : goal.returns-then-is_silent-clause-set

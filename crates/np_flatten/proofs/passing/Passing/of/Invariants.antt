@@ -1,6 +1,6 @@
 use Rattle.std.proofs.Common.{◌≡◌}
 use Rattle.np_flatten.proofs.passing.Passing.of.Given as goal
-use Rattle.np_flatten.specs.steps.Known.{AreKnownBelow}
+use Rattle.np_flatten.specs.Prelude.{AreKnownBelow}
 
 -- the rules of the workloads so far are known
 abbrev pub invariant-loop-workload : goal.invariant-loop-workload

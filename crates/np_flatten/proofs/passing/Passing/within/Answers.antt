@@ -1,10 +1,9 @@
 use Rattle.std.proofs.Common.{None, Some, ap, ◌∙◌, if◌then◌else◌}
 use Rattle.std.proofs.lemmas.Result.{IfOk-weaker}
-use Rattle.np_flatten.specs.Types.{EstateLists, Family}
-use Rattle.np_fold.specs.Workloads.{folding_of}
+use Rattle.np_flatten.specs.Prelude.{EstateLists, Family, family_of_list, set_in}
+use Rattle.np_fold.specs.Prelude.{folding_of}
 use Rattle.np_flatten.proofs.passing.Passing.within.Goals as goal
-use Rattle.np_flatten.specs.Faults.{family_of_list, set_in}
-use Rattle.np_kinds.specs.Between.{is_alone}
+use Rattle.np_kinds.specs.Prelude.{is_alone}
 
 pub returns-clause-set : goal.returns-clause-set
 unfolding set_in

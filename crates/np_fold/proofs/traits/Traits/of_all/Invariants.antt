@@ -1,5 +1,5 @@
 use Rattle.std.proofs.Common.{◌≡◌, take, map}
-use Rattle.np_fold.specs.Traits.{traits_of}
+use Rattle.np_fold.specs.Prelude.{traits_of}
 use Rattle.np_fold.proofs.traits.Traits.of_all.Given as goal
 
 -- the traits so far are those of the pods so far

@@ -1,5 +1,5 @@
 use Rattle.std.proofs.Common.{ap, sym, ◌∙◌}
-use Rattle.np_fold.specs.Workloads.{Folding}
+use Rattle.np_fold.specs.Prelude.{Folding}
 use Rattle.np_fold.proofs.MemberLemmas.{number-by_name}
 use Rattle.np_fold.proofs.workloads.Workloads.by_name.Goals as goal
 

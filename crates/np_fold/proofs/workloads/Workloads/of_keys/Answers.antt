@@ -1,4 +1,4 @@
-use Rattle.np_fold.specs.Keys.{keys_of_estate}
+use Rattle.np_fold.specs.Prelude.{keys_of_estate}
 use Rattle.np_fold.proofs.PartLemmas.{keys-agree, keys-ascend}
 use Rattle.np_fold.proofs.workloads.Workloads.of_keys.Goals as goal
 

@@ -1,7 +1,5 @@
 use Rattle.std.proofs.Common.{◌≡◌, map, ◌∙◌}
-use Rattle.np_fold.specs.Keys.{keys_of_estate}
-use Rattle.np_fold.specs.steps.Folded.{number_among}
-use Rattle.np_fold.specs.Workloads.{workload_of_entry}
+use Rattle.np_fold.specs.Prelude.{keys_of_estate, number_among, workload_of_entry}
 use Rattle.np_fold.proofs.PartLemmas.{classes-in, folding-is, keys-agree, keys-ascend, kinds-few, names-ascend, names-few, numbers-few, numbers-in, numbers-made, places-in, workloads-few, workloads-made}
 use Rattle.np_fold.proofs.workloads.Workloads.of_named.Goals as goal
 

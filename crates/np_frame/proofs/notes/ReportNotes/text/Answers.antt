@@ -2,7 +2,7 @@ use Rattle.std.proofs.Common.{◌∙◌, ◌++◌, ℕ, List, ap, append_assoc, 
 use Rattle.std.proofs.lemmas.List.{get_or_default}
 use Rattle.std.specs.List.{flat_map}
 use Rattle.np_frame.proofs.notes.ReportNotes.text.Goals as goal
-use Rattle.np_frame.specs.NoteTexts.{route_line}
+use Rattle.np_frame.specs.Prelude.{route_line}
 use Rattle.np_routes.specs.declared.route_note.RouteNote.{RouteNote}
 use Rattle.np_routes.specs.declared.route_note.RouteFlaw.TheVariants.{NoService}
 use Rattle.np_rules.proofs.PlacesLemmas.{flat_map-next}

@@ -2,7 +2,7 @@ use Rattle.std.proofs.Common.{◌≡◌, ◌∙◌, [], ◌∷◌, ◌++◌, Som
 use Rattle.std.specs.List.{slice_get}
 use Rattle.std.proofs.lemmas.Option.{slice_get_read}
 use Rattle.np_io.specs.declared.held.Held.{Held}
-use Rattle.np_io.specs.Memory.{place_of}
+use Rattle.np_io.specs.Prelude.{place_of}
 use Rattle.np_io.proofs.Adding.{replaced_here, replaced_others, replaced_faults, pushed_here, pushed_others, pushed_faults}
 use Rattle.np_io.proofs.mem_inputs.MemInputs.add.Goals as goal
 

@@ -1,5 +1,5 @@
 use Rattle.std.proofs.Common.{◌≡◌, ◌<◌, ◌∙◌, ap, Some, length, arith, rules}
-use Rattle.np_io.specs.Memory.{place_of}
+use Rattle.np_io.specs.Prelude.{place_of}
 use Rattle.np_io.proofs.Counting.{never_falls}
 use Rattle.np_io.proofs.Places.{name_at-place_of}
 use Rattle.np_io.proofs.mem_inputs.MemInputsInputs.begin.Goals as goal

@@ -1,5 +1,5 @@
 use Rattle.std.proofs.Common.{◌≡◌, ◌<◌, length, take, drop, rules}
-use Rattle.np_io.specs.Memory.{place_of, bytes_at}
+use Rattle.np_io.specs.Prelude.{bytes_at, place_of}
 use Rattle.np_io.proofs.Counting.{never_falls}
 use Rattle.np_io.proofs.HandingOut.{handed_on}
 use Rattle.np_io.proofs.mem_inputs.MemInputsInputs.read.Goals as goal

@@ -1,10 +1,10 @@
 use Rattle.std.proofs.Common.{ℕ, not, slice_index, refl, sym, ap, ◌∙◌}
 use Rattle.std.proofs.lemmas.Bool.{not-true}
-use Rattle.np_fold.specs.Workloads.{Folding, folding_of}
+use Rattle.np_fold.specs.Prelude.{Folding, folding_of}
 use Rattle.np_kinds.proofs.KindNumbers.{kind-there}
 use Rattle.np_kinds.proofs.ReachLemmas.{silent-pair}
 use Rattle.np_kinds.proofs.kind_reach.KindReach.is_silent.Goals as goal
-use Rattle.np_kinds.specs.Kinds.{may_pass}
+use Rattle.np_kinds.specs.Prelude.{may_pass}
 
 pub kind_of-near-requires : goal.kind_of-near-requires
 kind_of-near-requires c = rw c.workloads-workloads.ensures.value (kind-there c.args.folded.now (folding_of c.args.folded.now) c.args.source refl c.requires.source)

@@ -1,4 +1,4 @@
-use Rattle.np_kinds.specs.Types.{Egress, Ingress}
+use Rattle.np_kinds.specs.Prelude.{Egress, Ingress}
 use Rattle.np_kinds.proofs.ReachLemmas.{reach-nothing}
 use Rattle.np_kinds.proofs.kind_reach.KindReach.nothing.Goals as goal
 

@@ -1,7 +1,7 @@
 use Rattle.std.proofs.Common.{List, map, ap, ◌∙◌}
-use Rattle.np_kinds.specs.Types.{Egress, EstateLists, Ingress}
-use Rattle.np_reach.specs.Reach.{reach_of}
-use Rattle.np_rules.specs.model.Ends.{PodEnd, pod_end}
+use Rattle.np_kinds.specs.Prelude.{Egress, EstateLists, Ingress}
+use Rattle.np_reach.specs.Prelude.{reach_of}
+use Rattle.np_rules.specs.Prelude.{PodEnd, pod_end}
 use Rattle.np_kinds.proofs.ReachLemmas.{reach-right}
 use Rattle.np_kinds.proofs.kind_reach.KindReach.of.Goals as goal
 

@@ -1,8 +1,7 @@
 use Rattle.std.proofs.Common.{sym, subst}
 use Rattle.np_kinds.proofs.KindNumbers.{kind-there}
 use Rattle.np_kinds.proofs.sides.Sides.at.Goals as goal
-use Rattle.np_kinds.specs.Between.{IsWorkload}
-use Rattle.np_kinds.specs.Kinds.{KnownSides}
+use Rattle.np_kinds.specs.Prelude.{IsWorkload, KnownSides}
 
 pub kind_of-kind-requires : goal.kind_of-kind-requires
 kind_of-kind-requires c =

@@ -1,5 +1,5 @@
 use Rattle.np_labels.proofs.Distinct.{is_listed-distinct}
-use Rattle.np_labels.specs.DistinctAscends.{distinct-ascends}
+use Rattle.np_labels.specs.Prelude.{distinct-ascends}
 use Rattle.np_labels.proofs.requirement.Requirement.of.Goals as goal
 
 pub invariant_of-result : goal.invariant_of-result

@@ -1,6 +1,6 @@
 use Rattle.std.proofs.Common.{[], ◌∷◌, sym}
 use Rattle.std.proofs.lemmas.List.{map-append}
-use Rattle.np_labels.specs.Selectors.{label_requirement}
+use Rattle.np_labels.specs.Prelude.{label_requirement}
 use Rattle.np_labels.proofs.selector.Selector.of_labels.Goals as goal
 
 pub loop-key-preserved : goal.loop-key-preserved

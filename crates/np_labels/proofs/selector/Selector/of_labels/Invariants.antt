@@ -1,5 +1,5 @@
 use Rattle.std.proofs.Common.{◌≡◌, map}
-use Rattle.np_labels.specs.Selectors.{label_requirement}
+use Rattle.np_labels.specs.Prelude.{label_requirement}
 use Rattle.np_labels.proofs.selector.Selector.of_labels.Given as goal
 
 -- the requirements so far are those of the labels so far

@@ -3,7 +3,7 @@ use Rattle.std.specs.Cmp.Lexicographic.{slice_cmp}
 use Rattle.std.specs.BTreeSet.{contains}
 use Rattle.std.proofs.Common.{sym}
 use Rattle.np_labels.proofs.Listed.{kept_step, skipped_step}
-use Rattle.np_labels.specs.Demands.{has_value}
+use Rattle.np_labels.specs.Prelude.{has_value}
 use Rattle.np_labels.proofs.value_set.ValueSet.among.Goals as goal
 use Rattle.np_labels.proofs.value_set.ValueSet.among.Goals.{then-has+in_ok-copy+in_ok-insert, else-has}
 

@@ -2,8 +2,7 @@ use Rattle.std.proofs.Common.{◌≡◌, List, ℕ, ◌&&◌, take}
 use Rattle.std.specs.Ordering.{nat_cmp}
 use Rattle.std.specs.Cmp.Lexicographic.{slice_cmp}
 use Rattle.std.specs.BTreeSet.{contains}
-use Rattle.np_labels.specs.Demands.{has_value}
-use Rattle.np_labels.specs.Selectors.{is_listed}
+use Rattle.np_labels.specs.Prelude.{has_value, is_listed}
 use Rattle.np_labels.proofs.value_set.ValueSet.among.Given as goal
 
 -- the listed values so far that are in the set are in

@@ -1,5 +1,5 @@
 use Rattle.std.proofs.Common.{◌≡◌, ◌<◌, length, ◌+◌, ◌-◌, false, arith, sym, ap, ◌∙◌}
-use Rattle.np_owners.specs.Chains.{owns_itself}
+use Rattle.np_owners.specs.Prelude.{owns_itself}
 use Rattle.np_owners.proofs.ChainPlaces.{find_past}
 use Rattle.np_owners.proofs.chains.Chains.first_cycle.Goals as goal
 

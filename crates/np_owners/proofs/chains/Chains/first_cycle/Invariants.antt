@@ -1,7 +1,7 @@
 use Rattle.std.proofs.Common.{◌≡◌, ◌-◌, length}
 use Rattle.std.specs.Prelude.{find}
 use Rattle.std.specs.List.{range_with_len}
-use Rattle.np_owners.specs.Chains.{first_cycle, owns_itself}
+use Rattle.np_owners.specs.Prelude.{first_cycle, owns_itself}
 use Rattle.np_owners.proofs.chains.Chains.first_cycle.Given as goal
 
 -- the first place that owns itself is the first of those from here on

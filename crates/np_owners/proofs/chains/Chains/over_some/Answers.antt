@@ -1,6 +1,6 @@
 use Rattle.std.proofs.Common.{length, arith, sym, ap, ◌∙◌, ◌≡◌}
 use Rattle.std.proofs.lemmas.List.{with_items_is}
-use Rattle.np_owners.specs.Chains.{is_over_some}
+use Rattle.np_owners.specs.Prelude.{is_over_some}
 use Rattle.np_owners.proofs.ChainPlaces.{start_step, over_other, marks_are}
 use Rattle.np_owners.proofs.chains.Chains.over_some.Goals as goal
 use Rattle.np_owners.proofs.chains.Chains.over_some.Goals.{then-is_start, else-is_start}

@@ -1,6 +1,6 @@
 use Rattle.std.proofs.Common.{◌≡◌, ◌<◌, ℕ, ◌&&◌, length}
 use Rattle.std.specs.List.{list_any, range_with_len}
-use Rattle.np_owners.specs.Chains.{is_marked, is_at_or_over}
+use Rattle.np_owners.specs.Prelude.{is_at_or_over, is_marked}
 use Rattle.np_owners.proofs.chains.Chains.over_some.Given as goal
 
 -- marked is what is a start or stands over one, of the places so far

@@ -2,7 +2,7 @@ use Rattle.std.proofs.Common.{◌<◌, ℕ, length, refl, ◌∙◌}
 use Rattle.std.proofs.Math.Nat.{zero-add}
 use Rattle.std.proofs.lemmas.List.FromFn.{map-range_with_len_more}
 use Rattle.std.proofs.lemmas.List.Elements.{All-push}
-use Rattle.np_owners.specs.Chains.{top}
+use Rattle.np_owners.specs.Prelude.{top}
 use Rattle.np_owners.proofs.chains.Chains.tops.Goals as goal
 
 pub loop-place-preserved : goal.loop-place-preserved

@@ -1,6 +1,6 @@
 use Rattle.std.proofs.Common.{◌≡◌, ◌<◌, length, map, All}
 use Rattle.std.specs.List.{range_with_len}
-use Rattle.np_owners.specs.Chains.{top}
+use Rattle.np_owners.specs.Prelude.{top}
 use Rattle.np_owners.proofs.chains.Chains.tops.Given as goal
 
 -- the tops so far are those of the places so far, and places of the list

@@ -1,5 +1,5 @@
 use Rattle.std.proofs.Common.{◌≡◌, take, drop}
-use Rattle.np_owners.specs.Names.{HoldsPlaces, repeat_after, first_repeat}
+use Rattle.np_owners.specs.Prelude.{HoldsPlaces, first_repeat, repeat_after}
 use Rattle.np_owners.proofs.places.Places.of.Given as goal
 
 -- the places of the items so far are noted, and the first repeat is among those to come

@@ -1,12 +1,10 @@
 use Rattle.std.proofs.Common.{◌≡◌, Bor, List, flat_map, map, arith, subst, sym, ap, ◌∙◌}
 use Rattle.std.proofs.lemmas.List.{take_all}
 use Rattle.std.proofs.lemmas.List.Elements.{All-get_or}
-use Rattle.np_reach.specs.Types.{Pod}
+use Rattle.np_reach.specs.Prelude.{IsStretch, Pod, may_reach}
 use Rattle.np_reach.proofs.MarkLemmas.{rows_more, seen_rows}
 use Rattle.np_reach.proofs.reach.Reach.of.Goals as goal
-use Rattle.np_reach.specs.Reach.{may_reach}
-use Rattle.np_reach.specs.Stretches.{IsStretch}
-use Rattle.np_rules.specs.model.Ends.{pod, pod_end}
+use Rattle.np_rules.specs.Prelude.{pod, pod_end}
 
 pub push_rows-requires-clause-sides : goal.push_rows-requires-clause-sides
 push_rows-requires-clause-sides c =

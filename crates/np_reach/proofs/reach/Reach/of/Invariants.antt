@@ -1,7 +1,7 @@
 use Rattle.std.proofs.Common.{◌≡◌, flat_map, map, take}
-use Rattle.np_reach.specs.Reach.{may_reach}
+use Rattle.np_reach.specs.Prelude.{may_reach}
 use Rattle.np_reach.proofs.reach.Reach.of.Given as goal
-use Rattle.np_rules.specs.model.Ends.{pod, pod_end}
+use Rattle.np_rules.specs.Prelude.{pod, pod_end}
 
 -- the rows of the pods of the stretches so far
 abbrev pub invariant-loop-stretch : goal.invariant-loop-stretch

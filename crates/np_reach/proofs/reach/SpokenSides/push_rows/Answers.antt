@@ -1,14 +1,10 @@
 use Rattle.std.proofs.Common.{Bor, length, map, refl, subst, sym, ap, ◌∙◌}
 use Rattle.std.proofs.lemmas.List.Elements.{All-get_or}
-use Rattle.np_reach.specs.Types.{Pod}
+use Rattle.np_reach.specs.Prelude.{AreOfOneNamespace, Pod, admin_reaches, may_reach, net_reaches}
 use Rattle.np_reach.proofs.MarkLemmas.{item_behind, marked_by, row_right}
 use Rattle.np_reach.proofs.SpokenLemmas.{all_within}
 use Rattle.np_reach.proofs.reach.SpokenSides.push_rows.Goals as goal
-use Rattle.np_reach.specs.Namespaces.{AreOfOneNamespace}
-use Rattle.np_reach.specs.Reach.{admin_reaches, may_reach, net_reaches}
-use Rattle.np_rules.specs.model.Ends.{pod, pod_end}
-use Rattle.np_rules.specs.model.NetTier.{is_isolated}
-use Rattle.np_rules.specs.model.Selection.{net_selects, subject_selects}
+use Rattle.np_rules.specs.Prelude.{is_isolated, net_selects, pod, pod_end, subject_selects}
 
 pub chosen_of-requires-clause-alike : goal.chosen_of-requires-clause-alike
 chosen_of-requires-clause-alike c =

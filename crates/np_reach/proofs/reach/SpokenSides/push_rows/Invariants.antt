@@ -1,7 +1,7 @@
 use Rattle.std.proofs.Common.{◌≡◌, ◌++◌, map, take}
 use Rattle.np_reach.proofs.reach.SpokenSides.push_rows.Given as goal
-use Rattle.np_reach.specs.Reach.{may_reach}
-use Rattle.np_rules.specs.model.Ends.{pod, pod_end}
+use Rattle.np_reach.specs.Prelude.{may_reach}
+use Rattle.np_rules.specs.Prelude.{pod, pod_end}
 
 -- behind what was there, the rows of the pods so far
 abbrev pub invariant-loop-near : goal.invariant-loop-near

@@ -1,7 +1,6 @@
 use Rattle.std.proofs.Common.{rules, append_assoc, ◌≡◌, ◌++◌, codes, ℕ}
 use Rattle.std.specs.Prelude.{decimal}
-use Rattle.np_reading.specs.Refusals.{refusal_text}
-use Rattle.np_reading.specs.Types.{Duplicate}
+use Rattle.np_reading.specs.Prelude.{Duplicate, refusal_text}
 use Rattle.np_reading.proofs.refusal.RefusalDisplay.fmt.Goals as goal
 
 -- the text in the order in which its parts are written

@@ -1,6 +1,6 @@
 use Rattle.np_report.proofs.CsvLemmas.{line_is}
 use Rattle.np_report.proofs.csv_form.CsvFormForm.line.Goals as goal
-use Rattle.np_report.specs.Forms.{csv_form}
+use Rattle.np_report.specs.Prelude.{csv_form}
 
 pub returns : goal.returns
 returns c =

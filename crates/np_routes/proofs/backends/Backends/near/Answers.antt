@@ -2,11 +2,9 @@ use Rattle.std.proofs.Common.{ℕ, List, [], Bor, Option, Vec, ap, ◌∙◌}
 use Rattle.std.specs.List.{list_any}
 use Rattle.std.specs.Option.{option_map_or}
 use Rattle.std.specs.declared.alloc.Global.{Global}
-use Rattle.np_routes.specs.Types.{EstateLists, ServiceTargets}
+use Rattle.np_routes.specs.Prelude.{EstateLists, ServiceTargets, leads_to, routes_in, target_leads, targets_in}
 use Rattle.np_routes.proofs.backends.Backends.near.Goals as goal
-use Rattle.np_routes.specs.Routes.{leads_to, routes_in}
-use Rattle.np_routes.specs.steps.TargetsByNamespace.{target_leads, targets_in}
-use Rattle.np_rules.specs.model.Ends.{pod_end}
+use Rattle.np_rules.specs.Prelude.{pod_end}
 
 pub returns-in_err-targets : goal.returns-in_err-targets
 returns-in_err-targets c number =

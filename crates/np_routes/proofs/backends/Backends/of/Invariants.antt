@@ -1,9 +1,8 @@
 use Rattle.std.proofs.Common.{◌≡◌, ℕ, take}
 use Rattle.std.specs.List.{list_any}
-use Rattle.np_routes.specs.steps.AskedServices.{asked_leads}
-use Rattle.np_routes.specs.steps.TargetsByNamespace.{target_leads, targets_in}
+use Rattle.np_routes.specs.Prelude.{asked_leads, target_leads, targets_in}
 use Rattle.np_routes.proofs.backends.Backends.of.Given as goal
-use Rattle.np_rules.specs.model.Ends.{PodEnd}
+use Rattle.np_rules.specs.Prelude.{PodEnd}
 
 -- the services so far lead where those that are kept of a pod's namespace do
 abbrev pub invariant-loop-asked : goal.invariant-loop-asked

@@ -1,10 +1,9 @@
 use Rattle.std.proofs.Common.{◌≤◌, ◌+◌, ◌++◌, arith, sym, ◌∙◌}
 use Rattle.np_routes.proofs.IngressRowLemmas.{due-next, given-none, given-some, row-next, rows-ended, steps-within}
 use Rattle.np_routes.proofs.cluster_rows.ClusterRows.next.Goals as goal
-use Rattle.np_routes.specs.ClusterTable.{cluster_table}
-use Rattle.np_routes.specs.steps.IngressRows.{due_left, ingress_rows_from, rows_left}
+use Rattle.np_routes.specs.Prelude.{cluster_table, due_left, ingress_rows_from, rows_left}
 use Rattle.np_table.proofs.SetLemmas.{OnErr-from}
-use Rattle.np_kinds.specs.Between.{IsWorkload, number_of_workloads}
+use Rattle.np_kinds.specs.Prelude.{IsWorkload, number_of_workloads}
 
 pub returns-in_err-row-2-clause-most : goal.returns-in_err-row-2-clause-most
 returns-in_err-row-2-clause-most g c =

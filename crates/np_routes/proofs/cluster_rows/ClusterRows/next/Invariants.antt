@@ -1,7 +1,6 @@
 use Rattle.std.proofs.Common.{◌≡◌, ◌≤◌, ◌+◌, ◌-◌, ◌++◌, []}
 use Rattle.np_routes.proofs.cluster_rows.ClusterRows.next.Given as goal
-use Rattle.np_routes.specs.ClusterTable.{cluster_table}
-use Rattle.np_routes.specs.steps.IngressRows.{IsAtWorkload, due_left, ingress_due, ingress_rows_from, rows_left}
+use Rattle.np_routes.specs.Prelude.{IsAtWorkload, cluster_table, due_left, ingress_due, ingress_rows_from, rows_left}
 
 -- those of pairs and addresses have ended, the same rows are still to come, and what was looked at is due no more
 abbrev pub invariant-loop-self : goal.invariant-loop-self

@@ -6,7 +6,7 @@ use Rattle.std.proofs.lemmas.Iterator.Adapters.{fact_from_extend}
 use Rattle.std.proofs.lemmas.Iterator.Consumers.{YieldsList-from_rest}
 use Rattle.np_routes.proofs.PortSetLemmas.{compare_texts, lent, sets-joined}
 use Rattle.np_routes.proofs.port_set.PortSet.add_all.Goals as goal
-use Rattle.np_routes.specs.steps.PortSets.{has_text}
+use Rattle.np_routes.specs.Prelude.{has_text}
 
 pub returns : goal.returns
 returns c port =

@@ -1,13 +1,12 @@
 use Rattle.std.proofs.Common.{arith, ap, subst, ◌∙◌}
 use Rattle.std.proofs.lemmas.Result.{IfOk-weaker}
-use Rattle.np_model.specs.Lawful.{IsLawful}
-use Rattle.np_fold.specs.Workloads.{folding_of}
+use Rattle.np_model.specs.Prelude.{IsLawful}
+use Rattle.np_fold.specs.Prelude.{folding_of}
 use Rattle.np_routes.proofs.ReachedLemmas.{controller-asked, every_pod-of, send_steps-most, set-of_controller, set-of_other}
 use Rattle.np_routes.proofs.routes.Routes.ingress_set.Goals as goal
-use Rattle.np_routes.specs.Controllers.{Routing}
-use Rattle.np_routes.specs.steps.Senders.{sender_for}
+use Rattle.np_routes.specs.Prelude.{Routing, sender_for}
 use Rattle.np_table.proofs.SetLemmas.{IfOk-both}
-use Rattle.np_kinds.specs.Between.{source_pod}
+use Rattle.np_kinds.specs.Prelude.{source_pod}
 
 pub returns-then-eq-clause-set : goal.returns-then-eq-clause-set
 returns-then-eq-clause-set g c =

@@ -1,8 +1,6 @@
 use Rattle.std.proofs.Common.{◌≡◌, take}
 use Rattle.std.specs.List.{list_any}
-use Rattle.np_routes.specs.Types.{PortName}
-use Rattle.np_routes.specs.Services.{is_backend_port}
-use Rattle.np_routes.specs.steps.PortSets.{has_port}
+use Rattle.np_routes.specs.Prelude.{PortName, has_port, is_backend_port}
 use Rattle.np_routes.proofs.service_ports.ServicePorts.of.Given as goal
 
 -- the set has what the TCP ports so far are named by

@@ -1,13 +1,11 @@
 use Rattle.std.proofs.Common.{◌≡◌, ◌&&◌, true, false, arith}
 use Rattle.np_base.proofs.Lists.{list_any-next}
-use Rattle.np_conns.specs.Conns.{same_proto}
-use Rattle.np_routes.specs.Types.{Tcp}
+use Rattle.np_conns.specs.Prelude.{same_proto}
+use Rattle.np_routes.specs.Prelude.{Tcp, asked_port_leads, at_pod, has_own}
 use Rattle.np_routes.proofs.PortSetLemmas.{at_pod-none}
 use Rattle.np_routes.proofs.TargetLemmas.{port-asked, port-other}
 use Rattle.np_routes.proofs.service_targets.ServiceTargets.of.Goals as goal
 use Rattle.np_routes.proofs.service_targets.ServiceTargets.of.Goals.{then-eq+then-has_own+in_ok-add_target, else-eq, else-eq-via-then-eq+else-has_own, else-eq-via-else-eq}
-use Rattle.np_routes.specs.steps.AskedServices.{asked_port_leads}
-use Rattle.np_routes.specs.steps.PortSets.{at_pod, has_own}
 
 pub loop-port-init : goal.loop-port-init
 loop-port-init c p number = at_pod-none c.new-targets.result p number c.new-targets.ensures

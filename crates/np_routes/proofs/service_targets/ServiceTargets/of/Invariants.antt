@@ -1,9 +1,8 @@
 use Rattle.std.proofs.Common.{◌≡◌, ℕ, take}
 use Rattle.std.specs.List.{list_any}
-use Rattle.np_routes.specs.steps.AskedServices.{asked_port_leads}
-use Rattle.np_routes.specs.steps.PortSets.{at_pod}
+use Rattle.np_routes.specs.Prelude.{asked_port_leads, at_pod}
 use Rattle.np_routes.proofs.service_targets.ServiceTargets.of.Given as goal
-use Rattle.np_rules.specs.model.Ends.{PodEnd}
+use Rattle.np_rules.specs.Prelude.{PodEnd}
 
 -- the targets so far lead where the ports so far do
 abbrev pub invariant-loop-port : goal.invariant-loop-port

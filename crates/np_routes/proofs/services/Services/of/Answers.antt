@@ -1,6 +1,6 @@
 use Rattle.np_routes.proofs.ServiceLemmas.{place-next}
 use Rattle.np_routes.proofs.services.Services.of.Goals as goal
-use Rattle.np_routes.specs.steps.ServicesByName.{place_at}
+use Rattle.np_routes.specs.Prelude.{place_at}
 
 pub loop-place-preserved : goal.loop-place-preserved
 loop-place-preserved c namespace name =

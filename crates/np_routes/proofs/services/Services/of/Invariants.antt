@@ -1,6 +1,5 @@
 use Rattle.std.proofs.Common.{ℕ, List, take}
-use Rattle.np_routes.specs.Services.{service_named}
-use Rattle.np_routes.specs.steps.ServicesByName.{IsPlaceOf, place_at}
+use Rattle.np_routes.specs.Prelude.{IsPlaceOf, place_at, service_named}
 use Rattle.np_routes.proofs.services.Services.of.Given as goal
 
 -- under each name stands the place of the first one so far

@@ -1,8 +1,6 @@
 use Rattle.std.proofs.Common.{◌≡◌, ℕ, List, Option, subst, sym, ◌∙◌}
-use Rattle.np_routes.specs.Types.{ServiceItem}
+use Rattle.np_routes.specs.Prelude.{IsPlaceOf, ServiceItem, place_at, service_named}
 use Rattle.np_routes.proofs.services.Services.place.Goals as goal
-use Rattle.np_routes.specs.Services.{service_named}
-use Rattle.np_routes.specs.steps.ServicesByName.{IsPlaceOf, place_at}
 
 pub returns : goal.returns
 returns c =

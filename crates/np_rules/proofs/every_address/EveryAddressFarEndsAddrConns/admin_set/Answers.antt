@@ -1,6 +1,6 @@
 use Rattle.std.proofs.Common.{sym, ◌∙◌}
 use Rattle.std.proofs.lemmas.Result.{IfOk-weaker}
-use Rattle.np_rules.specs.Views.{end_view}
+use Rattle.np_rules.specs.Prelude.{end_view}
 use Rattle.np_rules.proofs.AddressLemmas.{admin_at_place, admin_nowhere}
 use Rattle.np_rules.proofs.every_address.EveryAddressFarEndsAddrConns.admin_set.Goals as goal
 

@@ -1,7 +1,5 @@
 use Rattle.std.proofs.Common.{IfOk, ap, ◌∙◌, subst}
-use Rattle.np_rules.specs.model.Ends.{Contact, pod}
-use Rattle.np_rules.specs.EveryAddress.{AddressSpot, address_contact, has_address_spot, is_address_spot}
-use Rattle.np_rules.specs.PodSides.{IsSideLayer, SaysVerdicts, with_addresses}
+use Rattle.np_rules.specs.Prelude.{AddressSpot, Contact, IsSideLayer, SaysVerdicts, address_contact, has_address_spot, is_address_spot, pod, with_addresses}
 use Rattle.np_rules.proofs.pod_rules.PodRules.address_layer.Goals as goal
 
 pub returns-clause-layer : goal.returns-clause-layer

@@ -1,11 +1,6 @@
 use Rattle.std.proofs.Common.{ℕ, List, map, refl, ap, ◌∙◌, arith}
-use Rattle.np_rules.specs.Types.{Beside, Layer, Piece}
-use Rattle.np_conns.specs.Conns.{Conns}
-use Rattle.np_rules.specs.model.Ends.{PodEnd, pod}
-use Rattle.np_rules.specs.EveryAddress.{address_contact, address_of, has_address_spot, is_address_spot}
-use Rattle.np_rules.specs.PodSides.{PodSide, near_pod, with_addresses}
-use Rattle.np_rules.specs.model.Sides.{side_allows}
-use Rattle.np_rules.specs.Views.{pod_view}
+use Rattle.np_rules.specs.Prelude.{Beside, Layer, Piece, PodEnd, PodSide, address_contact, address_of, has_address_spot, is_address_spot, near_pod, pod, pod_view, side_allows, with_addresses}
+use Rattle.np_conns.specs.Prelude.{Conns}
 use Rattle.np_rules.proofs.KeptLemmas.{walk_of_kept}
 use Rattle.np_rules.proofs.PodSideLemmas.{kept_count}
 use Rattle.np_rules.proofs.pod_rules.PodRules.address_set.Goals as goal

@@ -1,6 +1,5 @@
 use Rattle.std.proofs.Common.{map, refl, ap, ◌∙◌}
-use Rattle.np_rules.specs.model.Ends.{PodEnd}
-use Rattle.np_rules.specs.PodSides.{PodSide, near_pod}
+use Rattle.np_rules.specs.Prelude.{PodEnd, PodSide, near_pod}
 use Rattle.np_rules.proofs.LayerLemmas.{walk_is_side}
 use Rattle.np_rules.proofs.PodSideLemmas.{is_layer-kept}
 use Rattle.np_rules.proofs.pod_rules.PodRules.layer.Goals as goal

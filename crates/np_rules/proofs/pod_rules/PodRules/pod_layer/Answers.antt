@@ -1,9 +1,6 @@
 use Rattle.std.proofs.Common.{IfOk, ap, ◌∙◌, subst}
-use Rattle.np_conns.specs.Conns.{is_spot, has_spot}
-use Rattle.np_rules.specs.Types.{PortSpot}
-use Rattle.np_rules.specs.model.Ends.{Contact, pod}
-use Rattle.np_rules.specs.PodSides.{IsSideLayer, SaysVerdicts, with_pod}
-use Rattle.np_rules.specs.model.Verdict.{pod_at}
+use Rattle.np_conns.specs.Prelude.{has_spot, is_spot}
+use Rattle.np_rules.specs.Prelude.{Contact, IsSideLayer, PortSpot, SaysVerdicts, pod, pod_at, with_pod}
 use Rattle.np_rules.proofs.OneEndLemmas.{same_contacts}
 use Rattle.np_rules.proofs.pod_rules.PodRules.pod_layer.Goals as goal
 

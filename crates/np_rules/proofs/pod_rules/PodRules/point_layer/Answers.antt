@@ -1,10 +1,7 @@
 use Rattle.std.proofs.Common.{IfOk, ap, ◌∙◌, subst}
-use Rattle.np_addr.specs.Addresses.{family_of}
-use Rattle.np_conns.specs.Conns.{is_spot, has_spot}
-use Rattle.np_rules.specs.Types.{PortSpot}
-use Rattle.np_rules.specs.model.Ends.{Contact, pod, address}
-use Rattle.np_rules.specs.PodSides.{IsSideLayer, SaysVerdicts, with_point}
-use Rattle.np_rules.specs.model.Verdict.{pod_at}
+use Rattle.np_addr.specs.Prelude.{family_of}
+use Rattle.np_conns.specs.Prelude.{has_spot, is_spot}
+use Rattle.np_rules.specs.Prelude.{Contact, IsSideLayer, PortSpot, SaysVerdicts, address, pod, pod_at, with_point}
 use Rattle.np_rules.proofs.OneEndLemmas.{same_contacts}
 use Rattle.np_rules.proofs.pod_rules.PodRules.point_layer.Goals as goal
 

@@ -1,9 +1,6 @@
 use Rattle.std.proofs.Common.{IfOk, ap, ◌∙◌, subst}
-use Rattle.np_rules.specs.Types.{Four, PortSpot}
-use Rattle.np_conns.specs.Conns.{is_spot, has_spot}
-use Rattle.np_rules.specs.model.Ends.{Contact, pod, stranger_end}
-use Rattle.np_rules.specs.PodSides.{IsSideLayer, SaysVerdicts, with_stranger}
-use Rattle.np_rules.specs.model.Verdict.{pod_at}
+use Rattle.np_rules.specs.Prelude.{Contact, Four, IsSideLayer, PortSpot, SaysVerdicts, pod, pod_at, stranger_end, with_stranger}
+use Rattle.np_conns.specs.Prelude.{has_spot, is_spot}
 use Rattle.np_rules.proofs.OneEndLemmas.{same_contacts}
 use Rattle.np_rules.proofs.pod_rules.PodRules.stranger_layer.Goals as goal
 

@@ -1,10 +1,6 @@
 use Rattle.std.proofs.Common.{List, ◌∷◌, ◌++◌, [], ap, map, refl, subst, sym, ◌∙◌}
-use Rattle.np_rules.specs.Types.{Four, Layer}
-use Rattle.np_conns.specs.Conns.{Conns, has_spot, is_spot}
-use Rattle.np_rules.specs.model.Ends.{pod, stranger_end}
-use Rattle.np_rules.specs.OneEnd.{one_contact}
-use Rattle.np_rules.specs.PodSides.{PodSide, SaysVerdicts, near_pod, side_of, with_stranger}
-use Rattle.np_rules.specs.StrangerRules.{ArePermitted, rule_of}
+use Rattle.np_rules.specs.Prelude.{ArePermitted, Four, Layer, PodSide, SaysVerdicts, near_pod, one_contact, pod, rule_of, side_of, stranger_end, with_stranger}
+use Rattle.np_conns.specs.Prelude.{Conns, has_spot, is_spot}
 use Rattle.np_rules.proofs.OneEndLemmas.{same_contacts}
 use Rattle.np_rules.proofs.StrangerLemmas.{says_of_stranger}
 use Rattle.np_rules.proofs.stranger_rules.StrangerRules.layer.Goals as goal

@@ -1,7 +1,5 @@
 use Rattle.std.proofs.Common.{List, map, subst, sym}
-use Rattle.np_rules.specs.PodSides.{PodSide, side_of}
-use Rattle.np_rules.specs.StrangerRules.{IsNetOf}
-use Rattle.np_rules.specs.Types.{RuleConns}
+use Rattle.np_rules.specs.Prelude.{IsNetOf, PodSide, RuleConns, side_of}
 use Rattle.np_rules.proofs.StrangerLemmas.{net_of_kept}
 use Rattle.np_rules.proofs.stranger_rules.StrangerRules.net.Goals as goal
 

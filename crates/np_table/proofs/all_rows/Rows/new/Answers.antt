@@ -1,11 +1,10 @@
 use Rattle.std.proofs.Common.{length, arith, ap, ◌∙◌}
-use Rattle.np_fold.specs.Workloads.{Folding, folding_of}
+use Rattle.np_fold.specs.Prelude.{Folding, folding_of}
 use Rattle.np_table.proofs.DueLemmas.{due_from-start}
 use Rattle.np_table.proofs.KindLemmas.{IsCached-nothing}
 use Rattle.np_table.proofs.PlaceLemmas.{all_rows-from}
 use Rattle.np_table.proofs.all_rows.Rows.new.Goals as goal
-use Rattle.np_table.specs.Table.{estate_table}
-use Rattle.np_table.specs.ToCome.{place_count}
+use Rattle.np_table.specs.Prelude.{estate_table, place_count}
 
 pub invariant_of-result : goal.invariant_of-result
 invariant_of-result c = (

@@ -1,15 +1,12 @@
 use Rattle.std.proofs.Common.{◌≡◌, length, reverse, arith, sym, ap, subst, ◌∙◌}
 use Rattle.std.proofs.lemmas.Bool.{eqb-true}
-use Rattle.np_fold.specs.Workloads.{folding_of}
+use Rattle.np_fold.specs.Prelude.{folding_of}
 use Rattle.np_table.proofs.DueLemmas.{due_from-over, over-within}
 use Rattle.np_table.proofs.PlaceLemmas.{made-ready, nothing-left, passed-over}
 use Rattle.np_table.proofs.SetLemmas.{OnErr-from}
 use Rattle.np_table.proofs.all_rows.Rows.next.Goals as goal
-use Rattle.np_table.specs.ToCome.{RowsToCome, IsOfSameSource, rows_from}
-use Rattle.np_kinds.specs.Between.{number_of_workloads}
-use Rattle.np_kinds.specs.Kinds.{IsKindReach}
-use Rattle.np_table.specs.Types.{EstateLists}
-use Rattle.np_table.specs.Table.{estate_table}
+use Rattle.np_table.specs.Prelude.{EstateLists, IsOfSameSource, RowsToCome, estate_table, rows_from}
+use Rattle.np_kinds.specs.Prelude.{IsKindReach, number_of_workloads}
 
 pub returns-then-self-clause-given : goal.returns-then-self-clause-given
 returns-then-self-clause-given g c =

@@ -1,9 +1,8 @@
 use Rattle.std.proofs.Common.{◌≡◌, ◌++◌, ◌+◌, ◌-◌, ◌≤◌, reverse}
-use Rattle.np_fold.specs.Workloads.{folding_of}
+use Rattle.np_fold.specs.Prelude.{folding_of}
 use Rattle.np_table.proofs.all_rows.Rows.next.Given as goal
-use Rattle.np_kinds.specs.Kinds.{IsKindReach}
-use Rattle.np_table.specs.Table.{estate_table}
-use Rattle.np_table.specs.ToCome.{IsUnderWay, due_from, rows_from}
+use Rattle.np_kinds.specs.Prelude.{IsKindReach}
+use Rattle.np_table.specs.Prelude.{IsUnderWay, due_from, estate_table, rows_from}
 
 -- the same rows are still to come, whatever of them was made, and what was looked at is due no more
 abbrev pub invariant-loop-folded : goal.invariant-loop-folded

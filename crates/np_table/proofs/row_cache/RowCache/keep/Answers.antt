@@ -1,8 +1,7 @@
 use Rattle.std.proofs.Common.{◌<◌, List, Option, length, arith, subst}
 use Rattle.np_table.proofs.KeptLemmas.{cached_count-more}
 use Rattle.np_table.proofs.row_cache.RowCache.keep.Goals as goal
-use Rattle.np_table.specs.RowCache.{CachesTheSame}
-use Rattle.np_table.specs.Types.{CachedConns}
+use Rattle.np_table.specs.Prelude.{CachedConns, CachesTheSame}
 
 pub returns-clause-count : goal.returns-clause-count
 returns-clause-count c none =

@@ -2,7 +2,7 @@ use Rattle.std.proofs.Common.{refl}
 use Rattle.std.proofs.lemmas.Result.{IfOk-weaker}
 use Rattle.np_unused.proofs.KnownLemmas.{isolated_noted, open_noted}
 use Rattle.np_unused.proofs.used_rules.UsedRules.note_layer.Goals as goal
-use Rattle.np_unused.specs.Types.{UsedRules}
+use Rattle.np_unused.specs.Prelude.{UsedRules}
 
 pub returns-then-isolated : goal.returns-then-isolated
 returns-then-isolated g c =
