@@ -5,7 +5,7 @@ use Rattle.std.specs.List.{AllByRecursion, range_with_len}
 use Rattle.std.proofs.lemmas.Bool.{and_from, and_parts, cases_Bool, le-leb, le-ltb, leb-true, lt-ltb, ltb-true, true≢false}
 use Rattle.np_check.specs.Prelude.{Address, At, Family, Four, PlaceEnd, Proto, Sctp, Six, Tcp, Udp, Work, address_before, ascends_from, comes_before, family_before, proto_before}
 use Rattle.np_addr.specs.declared.address.Family.TheVariants as family
-use Rattle.np_base.proofs.Each.{All-append}
+use Rattle.np_base.proofs.Each.{All-append, All-weaker}
 
 -- ---- lists
 
@@ -20,14 +20,17 @@ sorted_append before [] ys in_xs in_ys across = in_ys
 sorted_append before (x ∷ xs) ys in_xs in_ys across =
     (All-append (λ y. before x y ≡ true) xs ys in_xs.0 across.0, sorted_append before xs ys in_xs.1 in_ys across.1)
 
+pub each_map : {X Y : Type 0} (P : Y → Type 0) (to : X → Y) (xs : List X) → AllByRecursion (λ x. P (to x)) xs → AllByRecursion P (map to xs)
+each_map P to [] all = tt
+each_map P to (x ∷ xs) all = (all.0, each_map P to xs all.1)
+
 pub sorted_map : {X Y : Type 0} (before : X → X → Bool) (before' : Y → Y → Bool) (to : X → Y) (xs : List X) → ((x y : X) → before x y ≡ true → before' (to x) (to y) ≡ true) → SortedBy before xs →
     SortedBy before' (map to xs)
 sorted_map before before' to [] keeps sorted = tt
-sorted_map before before' to (x ∷ xs) keeps sorted = (each xs sorted.0, sorted_map before before' to xs keeps sorted.1)
-  where
-    each : (ys : List _) → AllByRecursion (λ y. before x y ≡ true) ys → AllByRecursion (λ y. before' (to x) y ≡ true) (map to ys)
-    each [] all = tt
-    each (y ∷ ys) all = (keeps x y all.0, each ys all.1)
+sorted_map before before' to (x ∷ xs) keeps sorted = (
+  each_map (λ y. before' (to x) y ≡ true) to xs (All-weaker (λ y. before x y ≡ true) (λ y. before' (to x) (to y) ≡ true) (keeps x) xs sorted.0),
+  sorted_map before before' to xs keeps sorted.1,
+)
 
 all_above : (numbers : List ℕ) (low n : ℕ) → n < low → ascends_from low numbers ≡ true → AllByRecursion (λ m. nat_lt n m ≡ true) numbers
 all_above [] low n below ascends = tt

@@ -13,7 +13,7 @@ use Rattle.np_model.specs.declared.network_policy.NetPeer.TheVariants as net
 use Rattle.np_reach.specs.Reach.{admin_reaches, admin_rule_reaches, net_reaches}
 use Rattle.np_rules.proofs.KeptLemmas.{none_quieter, quieter}
 use Rattle.np_rules.specs.Prelude.{PodEnd, admin_peer_matches, admin_rules_of, net_peer_matches, net_rules_of, net_selects, none_or_any, pod, subject_selects}
-use Rattle.np_rules.specs.model.SpokenSides.{is_allow}
+use Rattle.np_rules.specs.model.Sides.{is_allow}
 
 -- two pods are of one namespace, as rules see them
 pub record AreOfOneNamespace (one far : PodEnd) : Type 0 where

@@ -3,7 +3,7 @@ use Rattle.std.specs.Prelude.{ℕ, List, [], Bool, true, false, ◌&&◌, ◌||�
 use Rattle.std.specs.List.{list_any}
 use Rattle.np_reach.specs.Types.{AdminPolicy, AdminRule, Direction, EstateLists, Four, NetPolicy, Six}
 use Rattle.np_rules.specs.Prelude.{End, PodEnd, admin_peer_matches, admin_rules_of, is_isolated, net_peer_matches, net_rules_of, net_selects, none_or_any, pod, subject_selects}
-use Rattle.np_rules.specs.model.SpokenSides.{is_allow}
+use Rattle.np_rules.specs.model.Sides.{is_allow}
 
 -- whether some rule of a NetworkPolicy speaks of a far end, whatever the port is
 abbrev pub net_reaches : Direction → End → NetPolicy → Bool
