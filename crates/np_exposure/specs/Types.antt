@@ -22,11 +22,7 @@ pub use Rattle.np_rules.specs.declared.stranger.Stranger.{Stranger}
 pub use Rattle.np_rules.specs.declared.stranger_rules.RuleConns.{RuleConns}
 pub use Rattle.np_exposure.specs.declared.exposure_row.ExposureRow.{ExposureRow}
 pub use Rattle.np_exposure.specs.declared.mentioned_key.MentionedKey.{MentionedKey}
-pub use Rattle.np_exposure.specs.declared.open_rules.OpenRule.{OpenRule}
-pub use Rattle.np_exposure.specs.declared.open_rules.OpenRules.{OpenRules}
 pub use Rattle.np_exposure.specs.declared.pending.Pending.{Pending}
 pub use Rattle.np_exposure.specs.declared.side.Side.{Side}
 pub use Rattle.np_exposure.specs.declared.side.Side.TheVariants.{Namespace, Pod}
 pub use Rattle.np_exposure.specs.declared.sided_requirement.SidedRequirement.{SidedRequirement}
-pub use Rattle.np_exposure.specs.declared.step.Aside.{Aside}
-pub use Rattle.np_exposure.specs.declared.step.Left.{Left}

@@ -1,3 +1,4 @@
+pub mod Types
 pub mod OnlyNamespace
 pub mod States
 pub mod Walks

@@ -1,6 +1,7 @@
 -- What is left on the way down the walk.
 use Rattle.std.specs.Prelude.{◌≡◌, ℕ, List}
-use Rattle.np_exposure.specs.Types.{Left, OpenRules, PortSpot, Stranger}
+use Rattle.np_exposure.specs.Types.{PortSpot, Stranger}
+use Rattle.np_exposure.specs.steps.Types.{Left, OpenRules}
 use Rattle.np_exposure.specs.steps.Settled.{permits}
 use Rattle.np_exposure.specs.steps.States.{IsWitness}
 

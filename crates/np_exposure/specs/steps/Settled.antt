@@ -2,7 +2,8 @@
 use Rattle.std.specs.Prelude.{◌≡◌, ℕ, List, Bool, true, ◌||◌, Option, IfSome}
 use Rattle.std.specs.List.{list_any}
 use Rattle.np_conns.specs.Prelude.{has_spot, is_spot}
-use Rattle.np_exposure.specs.Types.{OpenRule, OpenRules, PortSpot, Stranger}
+use Rattle.np_exposure.specs.Types.{PortSpot, Stranger}
+use Rattle.np_exposure.specs.steps.Types.{OpenRule, OpenRules}
 use Rattle.np_exposure.specs.Choices.{Choices}
 use Rattle.np_exposure.specs.steps.States.{IsWitness}
 use Rattle.np_rules.specs.Prelude.{PodSide, kept_matches, near_pod, permits_stranger, pod, stranger_end}

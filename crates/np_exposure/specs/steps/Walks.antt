@@ -3,7 +3,8 @@ use Rattle.std.specs.Prelude.{◌≡◌, List, [], ◌∷◌, Bool, true, false,
 use Rattle.np_conns.specs.Prelude.{Conns}
 use Rattle.np_exposure.specs.Strangers.{IsExposure}
 use Rattle.np_exposure.specs.Tree.{IsJoined}
-use Rattle.np_exposure.specs.Types.{Aside, ExposureRow, Pending, SidedRequirement, Stranger}
+use Rattle.np_exposure.specs.Types.{ExposureRow, Pending, SidedRequirement, Stranger}
+use Rattle.np_exposure.specs.steps.Types.{Aside}
 use Rattle.np_exposure.specs.Choices.{Choices}
 use Rattle.np_exposure.specs.steps.States.{IsWitness, can_be, is_decided, narrowed}
 use Rattle.np_rules.specs.Prelude.{PodSide}
