@@ -4,8 +4,8 @@ import json
 import random
 from typing import Any, Callable, Dict, List, NamedTuple, Sequence, Tuple
 
-import clusters
-from second.program import Refused, small_estate
+from second.program import small_estate
+from second.reading import Refused
 
 Rng = random.Random
 Place = Tuple[Any, ...]

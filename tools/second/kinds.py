@@ -1,10 +1,9 @@
 """The kinds of cases, each made of a random number generator and a number."""
 import copy
-import json
 from typing import Any, Callable, Dict, List
 
 import clusters
-from cases import (ADDRESSES, CIDRS, COMMANDS, GONE, KNOWN, NUMBERS, OTHERS, POOL, TEXTS, Case, Place, Raw, Rng, asked, at, end, list_of,
+from cases import (ADDRESSES, CIDRS, COMMANDS, KNOWN, NUMBERS, OTHERS, POOL, TEXTS, Case, Place, Rng, asked, at, end, list_of,
                    mixed, names_in, options, places_in, put, spoil, spoilt_line, statement, statements, text_of)
 
 
