@@ -93,6 +93,7 @@ def words(rng: Rng, number: int) -> List[Case]:
     command = rng.choice(COMMANDS + ["sample", "sample"])
     own = [command] + (options(rng, command, names_in((text,))) if rng.random() < 0.8 else [])
     own += ["--statement", "statements"] if command == "check" else []
+    own += options(rng, command, names_in((text,))) if rng.random() < 0.1 else []
     own += [str(rng.choice([1, 2, 5, 9, 30, 0, 1001]))] if command == "sample" else [] if rng.random() < 0.5 else ["0.json"]
     for _ in range(rng.choice([0, 1, 1, 2, 3])):
         place = rng.randrange(len(own) + 1)
