@@ -144,7 +144,7 @@ def richer_net(rng: Rng, policy: Item) -> None:
         if peers and rng.random() < 0.3:
             one, other = rng.sample(NETWORKS[:4] + ["10.0.0.1/32", "10.0.0.0/29"], 2)
             peers.append({"ipBlock": rng.choice([{"cidr": one}, {"cidr": "10.0.0.0/8", "except": ["10.0.0.0/29", "10.0.0.4/30"]},
-                                                 {"cidr": other}])})
+                                                 {"cidr": other, **maybe(rng, 0.3, **{"except": [rng.choice([one, other])]})}])})
         if peers and rng.random() < 0.3:
             named = {"key": lists.NAME_KEY, "operator": rng.choice(["Exists", "DoesNotExist"])}
             peers += [{"namespaceSelector": {"matchExpressions": [named]}}] if rng.random() < 0.3 else []

@@ -1,10 +1,9 @@
 """The kinds of cases, each made of a random number generator and a number."""
 import copy
-import json
 from typing import Any, Callable, Dict, List
 
 import clusters
-from cases import (ADDRESSES, CIDRS, COMMANDS, GONE, KNOWN, NUMBERS, OTHERS, POOL, TEXTS, Case, Place, Raw, Rng, asked, at, end, list_of,
+from cases import (ADDRESSES, CIDRS, COMMANDS, KNOWN, NUMBERS, OTHERS, POOL, TEXTS, Case, Place, Rng, asked, at, end, list_of,
                    mixed, names_in, options, places_in, put, spoil, spoilt_line, statement, statements, text_of)
 
 
@@ -94,6 +93,7 @@ def words(rng: Rng, number: int) -> List[Case]:
     command = rng.choice(COMMANDS + ["sample", "sample"])
     own = [command] + (options(rng, command, names_in((text,))) if rng.random() < 0.8 else [])
     own += ["--statement", "statements"] if command == "check" else []
+    own += options(rng, command, names_in((text,))) if rng.random() < 0.1 else []
     own += [str(rng.choice([1, 2, 5, 9, 30, 0, 1001]))] if command == "sample" else [] if rng.random() < 0.5 else ["0.json"]
     for _ in range(rng.choice([0, 1, 1, 2, 3])):
         place = rng.randrange(len(own) + 1)

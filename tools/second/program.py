@@ -136,18 +136,26 @@ def run(words: Sequence[str], source: Source) -> Answer:
 
 def read_system(name: str) -> bytes:
     """The bytes of a file, or of standard input, of which `-` is the name."""
-    if name == "-":
-        return sys.stdin.buffer.read()
-    with open(name, "rb") as file:
+    with open(0 if name == "-" else name, "rb", closefd=name != "-") as file:
         return file.read()
+
+
+def write_whole(descriptor: int, data: bytes) -> bool:
+    """Whether a sink of the system took all of some bytes."""
+    try:
+        while data:
+            data = data[os.write(descriptor, data):]
+        return True
+    except OSError:
+        return False
 
 
 def main() -> int:
     """Runs the program on the words after its name."""
     found = run(sys.argv[1:], read_system)
-    sys.stdout.buffer.write(found.out)
-    sys.stdout.buffer.flush()
-    sys.stderr.buffer.write(found.err)
+    if not write_whole(1, found.out):
+        found = Answer(DEVICE, b"", b"error: cannot write\n")
+    write_whole(2, found.err)
     return found.status
 
 

@@ -1,7 +1,6 @@
 """What the bytes of inputs are read as: items, who owns whom among them, and the estate (np_items, np_owners, np_reading)."""
 from typing import Dict, List, NamedTuple, Optional, Sequence, Set, Tuple, Union
 
-from . import values
 from .model import (NAME_KEY, AdminPolicy, ControllerItem, Estate, IngressItem, Labels, NamespaceItem, NetPolicy, Notes, Owner, Pod,
                     PodItem, ServiceItem)
 from .objects import CONTROLLERS, Object, Other, object_of
