@@ -124,7 +124,8 @@ function explained(app, from, to) {
     const answer = app.explained.get(from + ' ' + to);
     return element('div', { class: 'explained' },
         answer ? element('pre', { class: 'answer' }, ...answer.map(line => element('span', { class: deciderClass(line) }, line + '\n')))
-            : element('p', { class: 'hint' }, 'The rule is named by np, for every port and at both ends:'),
+            : page.explain ? page.explain(from, to)
+                : element('p', { class: 'hint' }, 'The rule is named by np, for every port and at both ends:'),
         ...explainCommands(from, to).map(command => element('div', { class: 'command' },
             element('code', {}, command), copyButton('Copy', command))));
 }

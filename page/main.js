@@ -1,6 +1,7 @@
 // The page: what stands at its top, the views, and what its keys do.
 
-const page = JSON.parse(document.getElementById('data').textContent);
+// What is shown, as np answered it, and the state of the page; both are there once `show` is called.
+let page = null, app = null;
 
 const VIEWS = [
     { name: 'matrix', label: 'Matrix', sections: [matrixSection], beside: [listSection] },
@@ -10,18 +11,6 @@ const VIEWS = [
     { name: 'exposure', label: 'New pods', sections: [exposureSection], beside: [] },
     { name: 'unused', label: 'Unused rules', sections: [unusedSection], beside: [] },
 ];
-
-const app = {
-    table: readTable(page.table),
-    before: page.before && readTable(page.before),
-    explained: readExplained(page.explained),
-    refused: page.refused.length ? 'np does not show what new pods would reach here: ' + page.refused.join(' ') : '',
-    listed: LIST_PART,
-    state: readState(location.hash),
-    change,
-    draw,
-};
-app.changes = app.before ? changesBetween(app.before, app.table) : [];
 
 // ---- What new pods would reach, and the rules that decide nothing
 
@@ -233,9 +222,25 @@ function pressed(event) {
     }
 }
 
+function makeApp() {
+    const before = page.before && readTable(page.before);
+    const table = readTable(page.table);
+    return {
+        table,
+        before,
+        changes: before ? changesBetween(before, table) : [],
+        explained: readExplained(page.explained),
+        refused: page.refused.length ? 'np does not show what new pods would reach here: ' + page.refused.join(' ') : '',
+        listed: LIST_PART,
+        state: readState(location.hash),
+        change,
+        draw,
+    };
+}
+
 function build() {
     document.title = page.title[0] + ' – np';
-    document.getElementById('page').append(
+    document.getElementById('page').replaceChildren(
         element('header', {},
             element('h1', {}, page.title[0]),
             facts(), viewButtons(), toolbar(),
@@ -249,9 +254,17 @@ function build() {
             keysHelp(),
             element('p', {}, 'Every row, answer and list of this page is np’s. '
                 + 'The page itself only lays out, filters and searches.')));
-    document.addEventListener('keydown', pressed);
-    window.addEventListener('hashchange', () => { app.state = readState(location.hash); draw(); });
-    draw();
 }
 
-build();
+// Shows what np answered, in the place of what was shown.
+function show(answered) {
+    const isFirst = !page;
+    page = answered;
+    app = makeApp();
+    build();
+    if (isFirst) {
+        document.addEventListener('keydown', pressed);
+        window.addEventListener('hashchange', () => { app.state = readState(location.hash); draw(); });
+    }
+    draw();
+}
