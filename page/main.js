@@ -42,7 +42,8 @@ function exposureSection() {
             'What each workload allows a pod that nobody has written yet. Of a workload and a direction, the first row whose '
             + 'requirements the pod meets is its verdict'
             + (state.passing ? '; rows where nothing passes are hidden by the filter, and count all the same.' : '.')),
-        element('table', { class: 'rows-table' }, element('tbody', {}, ...rows.slice(0, app.listed).map(exposureRow))),
+        element('table', { class: 'rows-table', 'aria-label': 'New pods' },
+            element('tbody', {}, ...rows.slice(0, app.listed).map(exposureRow))),
         rows.length > app.listed && moreButton());
 }
 
@@ -176,12 +177,19 @@ function draw() {
         button.setAttribute('aria-current', button.dataset.view === view.name ? 'page' : 'false');
     }
     showControls();
+    if (page.terminal) showTerminal(page.terminal(view.name, app.state));
     document.getElementById('view').replaceChildren(...view.sections.map(section => section(app)));
     document.getElementById('beside').replaceChildren(...view.beside.map(section => section(app)));
     drawDetail();
     // Who opened a line by a key is at that line afterwards.
     const again = key && Array.from(document.querySelectorAll('[data-key]')).find(made => made.dataset.key === key);
     if (again) again.focus();
+}
+
+// The command lines that give in a terminal what the view shows.
+function showTerminal(lines) {
+    document.getElementById('terminal').replaceChildren(...lines.map(line => element('div', { class: 'command' },
+        element('code', {}, line), copyButton('Copy', line))));
 }
 
 function drawDetail() {
@@ -243,7 +251,8 @@ function build() {
     document.getElementById('page').replaceChildren(
         element('header', {},
             element('h1', {}, page.title[0]),
-            facts(), viewButtons(), toolbar(),
+            facts(), viewButtons(),
+            page.terminal && element('div', { id: 'terminal', 'aria-label': 'In a terminal' }), toolbar(),
             ...page.notes.map(note => element('p', { class: 'note' }, note))),
         element('main', {},
             element('div', { id: 'view' }),

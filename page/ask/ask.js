@@ -66,11 +66,11 @@ function answerParts(words, files, given) {
     const saves = files.map(([name, bytes]) => saveButton('Save ' + name, name, () => bytes));
     return [
         commandPart(words, saves),
-        given.report && element('pre', { class: 'answer report', tabindex: 0, 'aria-label': 'The report' }, ...reportLines(given.report)),
+        given.report && element('pre', { class: 'answer report', tabindex: 0, 'aria-label': 'The report' }, ...reportLines(given.report.replace(/\n$/, ''))),
         given.isCut && element('p', { class: 'hint' }, 'The first ' + sizeText(given.report.length) + ' of ' + sizeText(given.length) + ' are shown.'),
         given.said && element('pre', { class: given.status ? 'answer fault' : 'answer said' }, given.said),
         element('p', { class: 'ended', 'data-status': given.status }, endingText(given)),
-        given.report && element('p', {}, copyButton('Copy the report', () => given.report),
+        given.report && element('p', { class: 'after' }, copyButton('Copy the report', () => given.report),
             saveButton('Save the report', 'np-' + words[0] + '.txt', () => new TextEncoder().encode(given.report))),
         ...given.status === 1 ? faultParts('now', given.said) : [],
     ].filter(Boolean);

@@ -109,6 +109,7 @@ async function given() {
     }
     asked.made = null;
     if (!inputs.now.length) { showNothing(); return; }
+    document.body.classList.add('stale');
     const now = await tableOf('now', true);
     if (number !== shows) return;
     if (now.status) { showFault('now', now); return; }
@@ -119,6 +120,7 @@ async function given() {
 }
 
 function showTables(now, before) {
+    document.body.classList.remove('stale');
     const lines = text => text.split('\n').filter(Boolean);
     document.getElementById('fault').hidden = true;
     document.getElementById('load').open = false;
@@ -133,12 +135,28 @@ function showTables(now, before) {
         refused: lines(now.refused),
         explained: [],
         explain: explainLive,
+        terminal: terminalLines,
         table: now.table,
         before: before && before.table,
     });
 }
 
+// The command lines that give in a terminal what a view shows.
+function terminalLines(view, state) {
+    const controller = controllerName() ? ['--controller', controllerName()] : [];
+    const list = (side, ...more) => commandLine(['list', ...controller, ...more, ...namesOf(side)]);
+    const lines = {
+        graph: [list('now', ...state.focus ? ['--focus', state.focus] : [])],
+        changes: [list('before'), list('now')],
+        exposure: [commandLine(['exposure', ...namesOf('now')])],
+        unused: [commandLine(['unused', ...namesOf('now')])],
+        ask: [],
+    };
+    return lines[view] || [list('now')];
+}
+
 function showNothing() {
+    document.body.classList.remove('stale');
     document.getElementById('fault').hidden = true;
     document.getElementById('load').open = true;
     document.getElementById('page').replaceChildren();

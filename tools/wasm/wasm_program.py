@@ -1,9 +1,9 @@
 #!/usr/bin/env python3
 """Makes dist/np.wasm, which is the proved program translated once more, for where there is no Linux.
 
-tools/wasm/build.py               makes it of the program that the kit proves of these sources, which has to be dist/np
-tools/wasm/build.py --check       says with status 1 that dist/np.wasm is not of dist/np, of its C or of this tool
-tools/wasm/build.py --trial BITCODE PATH   makes PATH of some module, to try the tool chain: that is nothing to ship
+tools/wasm/wasm_program.py                       makes it of the program that the kit proves of these sources, which has to be dist/np
+tools/wasm/wasm_program.py --check               says with status 1 that dist/np.wasm is not of dist/np, of its C or of this tool
+tools/wasm/wasm_program.py --trial MODULE PATH   makes PATH of some module, to try the tool chain: that is nothing to ship
 
 np.wasm is NOT what was proved. Proved is the module of the program; here the kit's clang compiles it for wasm64, with the words that the
 kit itself gives for that target, and the kit's rattle-link links it with heap.c and host.c of this folder, and with its own helpers.c for
@@ -27,10 +27,10 @@ import interrupts  # noqa: E402
 import sources  # noqa: E402
 from proved_module import Failed, kept_module, kit_folder, run  # noqa: E402
 
-_USAGE = "usage: tools/wasm/build.py [--check | --trial BITCODE PATH]"
+_USAGE = "usage: tools/wasm/wasm_program.py [--check | --trial MODULE PATH]"
 
 # What np.wasm is made of besides the program.
-_PARTS = ["heap.c", "host.c", "build.py", "proved_module.py"]
+_PARTS = ["heap.c", "host.c", "wasm_program.py", "proved_module.py"]
 
 # What the kit's rattle gives its clang for wasm64, and what its rattle-link gives for helpers.c.
 _FOR_WASM = """
@@ -125,7 +125,7 @@ def main(words: List[str]) -> int:
     try:
         if words == ["--check"]:
             if not is_current(TOP):
-                building.say("dist/np.wasm is not current: run ./release, or tools/wasm/build.py where dist/np is current")
+                building.say("dist/np.wasm is not current: run ./release, or tools/wasm/wasm_program.py where dist/np is current")
             return 0 if is_current(TOP) else 1
         if len(words) == 3 and words[0] == "--trial":
             _try(Path(words[1]).resolve(), Path(words[2]))

@@ -1,9 +1,9 @@
 #!/usr/bin/env python3
 """Makes dist/np.html, the page that asks np: of page/ask, of the parts of page/ that a made page has too, and of dist/np.wasm.
 
-tools/wasm/page.py            writes dist/np.html
-tools/wasm/page.py PATH       writes it there, with the module PATH.wasm if there is one: to try it
-tools/wasm/page.py --check    says with status 1 that dist/np.html is not what its parts give
+tools/wasm/ask_page.py            writes dist/np.html
+tools/wasm/ask_page.py PATH WASM  writes PATH with the module of another file, to try it
+tools/wasm/ask_page.py --check    says with status 1 that dist/np.html is not what its parts give
 """
 from __future__ import annotations
 
@@ -22,7 +22,7 @@ sys.path.insert(0, str(TOP))
 
 from plugin.page.whole import SCRIPTS  # noqa: E402
 
-_USAGE = "usage: tools/wasm/page.py [--check | PATH]"
+_USAGE = "usage: tools/wasm/ask_page.py [--check | PATH WASM]"
 _LINE = 120
 
 _WORKER = ["ask/host.js", "ask/table.js", "ask/worker.js"]
@@ -85,23 +85,24 @@ def is_current(top: Path) -> bool:
         return False
 
 
-def write(top: Path, made: Path, wasm: Path) -> None:
-    """Writes the page with the module of a file."""
-    made.write_text(page(top, wasm.read_bytes()), encoding="utf-8")
+def write(top: Path) -> None:
+    """Writes dist/np.html."""
+    (top / "dist" / "np.html").write_text(page(top, (top / "dist" / "np.wasm").read_bytes()), encoding="utf-8")
 
 
 def main(words: List[str]) -> int:
     """Does what the words of the command line ask for, and returns the status."""
     if words == ["--check"]:
         if not is_current(TOP):
-            print("dist/np.html is not current: run tools/wasm/page.py", file=sys.stderr)
+            print("dist/np.html is not current: run tools/wasm/ask_page.py", file=sys.stderr)
         return 0 if is_current(TOP) else 1
-    if len(words) > 1 or words and words[0].startswith("-"):
+    if not words:
+        write(TOP)
+    elif len(words) == 2 and not words[0].startswith("-"):
+        Path(words[0]).write_text(page(TOP, Path(words[1]).read_bytes()), encoding="utf-8")
+    else:
         print(_USAGE, file=sys.stderr)
         return 2
-    made = Path(words[0]) if words else TOP / "dist" / "np.html"
-    trial = made.with_suffix(".wasm")
-    write(TOP, made, trial if trial.is_file() else TOP / "dist" / "np.wasm")
     return 0
 
 
