@@ -4,7 +4,7 @@
 tools/wasm/compare.py [--wasm FILE] chromium|firefox-esr [CASE..]
 
 The cases are those that run the program and need no device: of the others each is named below, with what it needs. All transcripts are one
-of them. `./test` runs them, on tools/wasm/through.py in the place of dist/np, which hands each run to the browser, by a server of this tool.
+of them. `./test` runs them, on tools/wasm/through in the place of dist/np, which hands each run to the browser, by a server of this tool.
 """
 from __future__ import annotations
 
@@ -146,7 +146,7 @@ def compare(browser: str, wasm: Path, names: List[str]) -> int:
     with tempfile.TemporaryDirectory(ignore_cleanup_errors=True) if sys.version_info >= (3, 10) else tempfile.TemporaryDirectory() as profile:
         child = start_browser(browser, profile, top)
         try:
-            tested = dict(os.environ, NP_TESTED=str(HERE / "through.py"), NP_WASM_SERVER=top)
+            tested = dict(os.environ, NP_TESTED=str(HERE / "through"), NP_WASM_SERVER=top)
             status = subprocess.run([str(TOP / "test"), *names], env=tested, check=False).returncode
         finally:
             child.terminate()

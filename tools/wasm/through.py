@@ -1,25 +1,25 @@
-#!/usr/bin/env -S python3 -IS -X utf8
-"""A stand-in for the program np: hands its words, its inputs and standard input to np.wasm in a browser, and writes what comes of them.
+"""What the script `through` beside this file does: a run of np.wasm by the server of tools/wasm/compare.py, in the place of one of np.
 
-tools/wasm/compare.py starts the browser, and names in NP_WASM_SERVER where it is asked. Each word that names a file is an input that np may
-open, and so is what stands behind the `=` of an option; of each at most as many bytes are read as np reads, and one more.
+Each word that names a file is an input that np may open, and so is what stands behind the `=` of an option; of each at most as many bytes are
+read as np reads, and one more. There may be thousands of such runs, so that little is loaded.
 """
 from __future__ import annotations
 
-import base64
+import binascii
 import json
 import os
+import socket
 import stat
 import sys
-import urllib.request
-from typing import Dict, List, Optional
+from typing import Any, Dict, List, Optional
 
 _MOST_READ = 33_554_433
+_STANDARD_INPUT = 3
 
 
 def coded(data: bytes) -> str:
     """Bytes as base64."""
-    return base64.b64encode(data).decode("ascii")
+    return binascii.b2a_base64(data, newline=False).decode("ascii")
 
 
 def read_all(number: int) -> Optional[bytes]:
@@ -62,19 +62,24 @@ def files_of(words: List[bytes]) -> Dict[str, str]:
     return found
 
 
+def asked(run: Dict[str, Any]) -> Dict[str, Any]:
+    """What the server answers to a run."""
+    host, _, port = os.environ["NP_WASM_SERVER"].rpartition("/")[2].partition(":")
+    body = json.dumps(run).encode("ascii")
+    with socket.create_connection((host, int(port))) as server:
+        server.sendall(b"POST /run HTTP/1.0\r\nContent-Length: %d\r\n\r\n%s" % (len(body), body))
+        with server.makefile("rb") as stream:
+            made: Dict[str, Any] = json.loads(stream.read().partition(b"\r\n\r\n")[2])
+    return made
+
+
 def main() -> int:
     """Has the run made, writes what came of it, and returns its status."""
     words = [os.fsencode(word) for word in sys.argv[1:]]
-    asked = {"words": [coded(word) for word in words], "files": files_of(words), "input": None}
-    given = read_all(0)
-    if given is not None:
-        asked["input"] = coded(given)
-    body = json.dumps(asked, ensure_ascii=True).encode("ascii")
-    plain = urllib.request.build_opener(urllib.request.ProxyHandler({}))
-    with plain.open(os.environ["NP_WASM_SERVER"] + "/run", body) as answer:
-        made = json.load(answer)
+    given = read_all(_STANDARD_INPUT)
+    made = asked({"words": [coded(word) for word in words], "files": files_of(words), "input": None if given is None else coded(given)})
     for stream, name in ((sys.stdout, "out"), (sys.stderr, "err")):
-        stream.buffer.write(base64.b64decode(made[name]))
+        stream.buffer.write(binascii.a2b_base64(made[name]))
         stream.buffer.flush()
     return int(made["status"])
 
