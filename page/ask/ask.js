@@ -34,7 +34,7 @@ function fieldOf(question, field, place) {
     return {
         input,
         made: element('label', { class: field.text !== undefined ? 'field wide' : 'field' },
-            element('span', {}, field.label + (field.optional ? ' (may stay empty)' : '')), input,
+            element('span', {}, field.label + (field.optional && !field.choices ? ' (may stay empty)' : '')), input,
             field.offers && element('datalist', { id: input.id + '-names' }, ...names.map(name => element('option', { value: name })))),
     };
 }

@@ -3,7 +3,8 @@
 const PROTOCOLS = ['TCP', 'UDP', 'SCTP'];
 const END_HINT = 'a workload, as shop/web[Deployment], or an address';
 
-// A field: the option that it gives (none: the value alone), its label, the values that are offered, and whether it may stay empty.
+// A field: the option that it gives (none: the value alone), its label, the values that are offered, and whether it gives none where it is
+// empty or the first of its choices.
 const QUESTIONS = [
     { command: 'evaluate', label: 'One packet', hint: 'Whether one packet passes between pods that exist, or a pod and an address.', fields: [
         { option: '--from', label: 'From', offers: 'pods', hint: 'a pod, as shop/web-0, or an address' },
@@ -23,9 +24,9 @@ const QUESTIONS = [
     ] },
     { command: 'list', label: 'Rows', hint: 'The table of np list, in the form that you choose.', fields: [
         { option: '--focus', label: 'Workload', offers: 'workloads', optional: true, hint: 'all workloads' },
-        { option: '--side', label: 'Side', choices: ['either', 'from', 'to'] },
-        { option: '--format', label: 'Format', choices: ['text', 'csv', 'json'] },
-        { option: '--report', label: 'Ranges', choices: ['2', '1'], names: ['by CIDRs', 'by their ends'] },
+        { option: '--side', label: 'Side', choices: ['either', 'from', 'to'], optional: true },
+        { option: '--format', label: 'Format', choices: ['text', 'csv', 'json'], optional: true },
+        { option: '--report', label: 'Ranges', choices: ['2', '1'], names: ['by CIDRs', 'by their ends'], optional: true },
         { option: '--controller', label: 'Ingress controller', offers: 'workloads', optional: true, hint: 'not known' },
     ] },
     { command: 'unused', label: 'Unused rules', hint: 'The rules that decide nothing.', fields: [] },
@@ -46,7 +47,7 @@ function wordsOf(question, values) {
         if (field.text !== undefined) {
             words.push(field.option, STATEMENTS);
             files.push([STATEMENTS, new TextEncoder().encode(value)]);
-        } else if (value !== '' || !field.optional) {
+        } else if (!field.optional || value !== (field.choices ? field.choices[0] : '')) {
             words.push(...field.option ? [field.option, value] : [value]);
         }
     });
