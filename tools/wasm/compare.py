@@ -3,8 +3,7 @@
 
 tools/wasm/compare.py [--wasm FILE] chromium|firefox-esr [CASE..]
 
-The cases are those that run the program and need no device: of the others each is named below, with what it needs. All transcripts are one
-of them. `./test` runs them, on tools/wasm/through in the place of dist/np, which hands each run to the browser, by a server of this tool.
+The cases are those that run the program; of the others each is named below, with what it needs. All transcripts are one of them. `./test` runs them, on tools/wasm/through in the place of dist/np, which hands each run to the browser, by a server of this tool.
 """
 from __future__ import annotations
 
@@ -33,13 +32,8 @@ _BROWSERS = {
 _NOT_HERE = {
     "a-cut-report-is-its-beginning": "a bound on files",
     "case-that-needs-a-command": "./test itself",
-    "closed-errors": "closed outputs",
-    "closed-output": "closed outputs",
-    "each-message-on-a-full-device": "a full device",
-    "each-report-on-a-full-device": "a full device",
     "fault-out-of-memory": "a bound of the system on memory",
     "from-another-folder": "./np",
-    "full-device": "a full device",
     "kept-program-has-no-symbols": "the file dist/np",
     "no-kit-on-the-path": "./np",
     "package-manual": "the package",
@@ -127,7 +121,7 @@ def start_browser(name: str, profile: str, top: str) -> "subprocess.Popen[bytes]
 
 
 def cases() -> List[str]:
-    """The cases that run the program and need no device."""
+    """The cases that run the program, and nothing that np.wasm has not."""
     found = []
     for folder in sorted((TOP / "cases").iterdir()):
         script = folder / "run"

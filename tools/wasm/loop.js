@@ -16,7 +16,7 @@ function made(module, run) {
     const words = run.words.map(bytesOf);
     const files = new Map(Object.entries(run.files).map(([name, text]) => [name, bytesOf(text)]));
     const input = run.input === null ? null : bytesOf(run.input);
-    const take = (output, bytes) => { taken[output - 1].push(bytes); };
+    const take = (output, bytes) => !run.full.includes(output) && taken[output - 1].push(bytes) > 0;
     try {
         const { status } = runNp(module, { words, input, files, most: run.most || LIMIT, take });
         return { status, out: codedOf(taken[0]), err: codedOf(taken[1]) };
