@@ -6,7 +6,8 @@
  *
  * A block is 16 bytes of head and then its bytes, so that each block lies at a multiple of 16, which is the most that the program asks for.
  * How many bytes a block has is one of the sizes 16, 32, 48, 64, 80, 96, 112, 128, 160, 192, 224, 256, 320 .. (four to a doubling). A block
- * that is taken back waits in the list of its size. A new one is taken from that list, or from behind all blocks.
+ * that is taken back waits in the list of its size. A new one is taken from that list, or from behind all blocks, or, where memory may not
+ * grow for it, from the list of a larger size.
  */
 typedef unsigned long long u64;
 
@@ -55,13 +56,29 @@ static struct block *block_at(void *place) {
     return (struct block *)((unsigned char *)place - HEAD);
 }
 
+static int grows(u64 have, u64 more) {
+    return may_grow(have + more) && __builtin_wasm_memory_grow(0, more / PAGE) != -1ULL;
+}
+
 /* Sees to it that memory has this many bytes, and answers whether it has. */
 static int has_room(u64 bytes) {
     u64 have = __builtin_wasm_memory_size(0) * PAGE;
     if (bytes <= have)
         return 1;
-    u64 more = bytes - have < STEP ? STEP : (bytes - have + PAGE - 1) / PAGE * PAGE;
-    return may_grow(have + more) && __builtin_wasm_memory_grow(0, more / PAGE) != -1ULL;
+    u64 least = (bytes - have + PAGE - 1) / PAGE * PAGE;
+    return (least < STEP && grows(have, STEP)) || grows(have, least);
+}
+
+/* A block that was taken back, of this size at the least and the greatest, or 0. */
+static struct block *free_block(u64 least, u64 greatest) {
+    for (u64 size = least; size <= greatest; size++) {
+        struct block *found = free_blocks[size];
+        if (found) {
+            free_blocks[size] = found->next;
+            return found;
+        }
+    }
+    return 0;
 }
 
 /* A block from behind all others, or 0. */
@@ -92,11 +109,9 @@ struct tried rattle_alloc(u64 n, u64 align) {
     if (n > MOST)
         return none;
     u64 size = size_for(n);
-    struct block *made = free_blocks[size];
-    if (made)
-        free_blocks[size] = made->next;
-    else
-        made = new_block(size);
+    struct block *made = free_block(size, size);
+    made = made ? made : new_block(size);
+    made = made ? made : free_block(size + 1, SIZES - 1);
     return made ? (struct tried){1, (unsigned char *)made + HEAD} : none;
 }
 
