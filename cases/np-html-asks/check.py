@@ -82,7 +82,7 @@ def check_refused(browser, checks):
     browser.run("inputs.now.length = inputs.before.length = 0")
     checks.same("a list that is refused", refusal(browser, "bad.json"),
                 ("error: item 4: metadata.name: BadField\n", "1", ["Object 4, Pod shop, of bad.json"]))
-    browser.run("inputs.now.length = 0; document.getElementById('memory').value = 9")
+    browser.run("inputs.now.length = 0; document.getElementById('memory').value = 8.5")
     checks.same("too little memory", refusal(browser, SHOP)[:2], ("error: out of memory\n", "4"))
 
 
