@@ -40,6 +40,20 @@ def pod_of_web():
     return next("shop/" + item["metadata"]["name"] for item in items if item["kind"] == "Pod" and "web" in item["metadata"]["name"])
 
 
+def check_given(browser, checks):
+    """An example, a text that is pasted, and a list that is taken away again."""
+    browser.click("#show-example")
+    await_true(browser, "page && page.title[0] === 'shop.json'")
+    browser.run("document.getElementById('load').open = true")
+    browser.click("#inputs-now button[aria-label^=Remove]")
+    browser.run("document.getElementById('paste').value = arguments[0]", Path(SHOP).read_text(encoding="utf-8"))
+    browser.click("#add-pasted")
+    await_true(browser, "page && page.title[0] === 'pasted.json'")
+    checks.same("the line of a pasted list", browser.texts("#terminal code"), ["np list pasted.json"])
+    checks.same("its rows", browser.run("return app.table.names"), [API, DATABASE, WEB])
+    browser.run("inputs.now.length = 0")
+
+
 def check_answers(browser, checks):
     for command, *values in ASKED:
         values = [pod_of_web() if "84d5c7b6fd" in value else value for value in values]
@@ -101,6 +115,7 @@ def check_silent(browser, checks):
 def main():
     checks = Checks()
     with asking() as browser:
+        check_given(browser, checks)
         show(browser, "now", SHOP)
         Path("shop.json").write_bytes(Path(SHOP).read_bytes())
         check_answers(browser, checks)

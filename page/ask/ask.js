@@ -47,11 +47,12 @@ function askForm(question) {
     const ask = async () => {
         latest += 1;
         const number = latest;
-        const values = fields.map(({ input }) => question.fields.find(field => field.text !== undefined) ? input.value : input.value.trim());
+        const values = fields.map(({ input }, place) => question.fields[place].text === undefined ? input.value.trim() : input.value);
         values.forEach((value, place) => { asked.values[question.command + place] = value; });
         const { words, files } = wordsOf(question, values);
-        const given = await runner.ask({ words, files: files.concat(filesOf('now')), most: memoryMost(), isStale: () => number !== latest });
-        if (number === latest && !given.isStale) answer.replaceChildren(...answerParts(words, files, given));
+        const isStale = () => number !== latest;
+        const given = await runner.ask({ words, files: files.concat(filesOf('now')), most: memoryMost(), isStale });
+        if (!isStale()) answer.replaceChildren(...answerParts(words, files, given));
     };
     const send = event => { event.preventDefault(); ask(); };
     const typed = () => { clearTimeout(timer); timer = setTimeout(ask, TYPING_PAUSE); };
@@ -66,8 +67,10 @@ function answerParts(words, files, given) {
     const saves = files.map(([name, bytes]) => saveButton('Save ' + name, name, () => bytes));
     return [
         commandPart(words, saves),
-        given.report && element('pre', { class: 'answer report', tabindex: 0, 'aria-label': 'The report' }, ...reportLines(given.report.replace(/\n$/, ''))),
-        given.isCut && element('p', { class: 'hint' }, 'The first ' + sizeText(given.report.length) + ' of ' + sizeText(given.length) + ' are shown.'),
+        given.report && element('pre', { class: 'answer report', tabindex: 0, 'aria-label': 'The report' },
+            ...reportLines(given.report.replace(/\n$/, ''))),
+        given.isCut && element('p', { class: 'hint' },
+            'The first ' + sizeText(given.report.length) + ' of ' + sizeText(given.length) + ' are shown.'),
         given.said && element('pre', { class: given.status ? 'answer fault' : 'answer said' }, given.said),
         element('p', { class: 'ended', 'data-status': given.status }, endingText(given)),
         given.report && element('p', { class: 'after' }, copyButton('Copy the report', () => given.report),
@@ -81,7 +84,8 @@ const MOST_LINES_SHOWN = 2000;
 function reportLines(report) {
     const lines = report.split('\n');
     const shown = lines.slice(0, MOST_LINES_SHOWN).map(line => element('span', { class: deciderClass(line) }, line + '\n'));
-    return lines.length > MOST_LINES_SHOWN ? shown.concat(['.. and ' + (lines.length - MOST_LINES_SHOWN) + ' more lines: copy or save the report\n']) : shown;
+    const left = lines.length - MOST_LINES_SHOWN;
+    return left > 0 ? shown.concat(['.. and ' + left + ' more lines: copy or save the report\n']) : shown;
 }
 
 function endingText(given) {

@@ -12,9 +12,10 @@ function freshName(name, taken) {
     }
 }
 
-function addInput(side, name, bytes) {
+// A pasted list is in no file yet, so that the page offers to save it.
+function addInput(side, name, bytes, isPasted) {
     const taken = inputs.now.concat(inputs.before).map(input => input.name);
-    inputs[side].push({ name: freshName(name, taken), bytes });
+    inputs[side].push({ name: freshName(name, taken), bytes, isPasted });
 }
 
 async function addFiles(side, files) {
@@ -60,8 +61,9 @@ function faultyObjects(side, said) {
 
 // What to do about an input that is no JSON.
 function adviceOf(said) {
-    if (/: NotJson/.test(said)) return 'np reads what kubectl get -o json prints. For YAML files, kubectl np -f FOLDER reads them in a terminal.';
-    if (/: NotAList/.test(said)) return 'np reads what kubectl get -o json prints: a v1 List, or one object.';
+    const read = 'np reads what kubectl get -o json prints';
+    if (/: NotJson/.test(said)) return read + '. For YAML files, kubectl np -f FOLDER reads them in a terminal.';
+    if (/: NotAList/.test(said)) return read + ': a v1 List, or one object.';
     const word = /error: (?:items? [^:]*: (?:\S+: )?|input \d+: )?([A-Z][A-Za-z]+)/.exec(said);
     return word ? 'kubectl np help ' + word[1] + ' says what to do.' : '';
 }

@@ -6,7 +6,7 @@ const END_HINT = 'a workload, as shop/web[Deployment], or an address';
 // A field: the option that it gives (none: the value alone), its label, the values that are offered, and whether it gives none where it is
 // empty or the first of its choices.
 const QUESTIONS = [
-    { command: 'evaluate', label: 'One packet', hint: 'Whether one packet passes between pods that exist, or a pod and an address.', fields: [
+    { command: 'evaluate', label: 'One packet', hint: 'Whether one packet passes between two pods, or a pod and an address.', fields: [
         { option: '--from', label: 'From', offers: 'pods', hint: 'a pod, as shop/web-0, or an address' },
         { option: '--to', label: 'To', offers: 'pods', hint: 'a pod, as shop/db-0, or an address' },
         { option: '--protocol', label: 'Protocol', choices: PROTOCOLS },
@@ -16,7 +16,7 @@ const QUESTIONS = [
         { option: '--from', label: 'From', offers: 'workloads', hint: END_HINT },
         { option: '--to', label: 'To', offers: 'workloads', hint: END_HINT },
     ] },
-    { command: 'check', label: 'Statements', hint: 'What must, or must not, be able to connect. The answer is renewed while you type.', fields: [
+    { command: 'check', label: 'Statements', hint: 'What must, or must not, be able to connect, answered while you type.', fields: [
         { option: '--statement', label: 'Statements, one a line', text: 'deny any address => any pod : TCP 22\n' },
     ] },
     { command: 'exposure', label: 'New pods', hint: 'What a pod that does not exist yet could reach, and what could reach it.', fields: [
@@ -32,7 +32,7 @@ const QUESTIONS = [
     { command: 'unused', label: 'Unused rules', hint: 'The rules that decide nothing.', fields: [] },
     { command: 'flatten', label: 'Flatten', hint: 'NetworkPolicies that give the verdicts of all policies, admin policies among them. Read '
         + 'docs/use/FLATTEN.md before you apply them.', fields: [] },
-    { command: 'sample', label: 'Sample', hint: 'How many rows the table of a made cluster of so many pods has. It reads no list.', noFiles: true, fields: [
+    { command: 'sample', noFiles: true, label: 'Sample', hint: 'How many rows a made cluster of so many pods has, without a list.', fields: [
         { label: 'Pods', type: 'number', hint: '1 to 1000', value: '100' },
     ] },
 ];

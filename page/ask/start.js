@@ -33,17 +33,22 @@ function busyLine() {
 
 function dropZone(side, label) {
     const chooser = element('input', { type: 'file', multiple: true, id: 'choose-' + side, accept: '.json,application/json' });
-    chooser.addEventListener('change', async () => { await addFiles(side, chooser.files); chooser.value = ''; given(); });
+    chooser.addEventListener('change', async () => {
+        await addFiles(side, chooser.files);
+        chooser.value = '';
+        given();
+    });
     return element('div', { class: 'drop', 'data-side': side },
         element('label', { for: chooser.id }, label), chooser,
         element('ul', { class: 'inputs', id: 'inputs-' + side }));
 }
 
 function pasteBox() {
-    const area = element('textarea', { id: 'paste', rows: 3, spellcheck: 'false', placeholder: '{ "apiVersion": "v1", "kind": "List", "items": [ ..' });
+    const hint = '{ "apiVersion": "v1", "kind": "List", "items": [ ..';
+    const area = element('textarea', { id: 'paste', rows: 3, spellcheck: 'false', placeholder: hint });
     const add = () => {
         if (!area.value.trim()) return;
-        addInput('now', 'pasted.json', new TextEncoder().encode(area.value));
+        addInput('now', 'pasted.json', new TextEncoder().encode(area.value), true);
         area.value = '';
         given();
     };
@@ -60,13 +65,14 @@ function inputItem(side, input, place) {
 
 function example() {
     inputs.now.length = 0;
-    addInput('now', 'shop.json', blockBytes('example'));
+    addInput('now', 'shop.json', blockBytes('example'), true);
     given();
 }
 
 function loadPart() {
     const memory = element('input', { type: 'number', id: 'memory', min: 1, value: DEFAULT_MEMORY });
-    const controller = element('input', { type: 'text', id: 'controller', autocomplete: 'off', placeholder: 'not known', list: 'controllers' });
+    const words = { id: 'controller', placeholder: 'not known', list: 'controllers', autocomplete: 'off' };
+    const controller = element('input', Object.assign({ type: 'text' }, words));
     controller.addEventListener('change', given);
     return element('details', { id: 'load', open: true },
         element('summary', {}, 'Lists'),
@@ -75,9 +81,10 @@ function loadPart() {
             dropZone('before', 'An earlier state, to see what changed'),
             pasteBox(),
             element('div', { class: 'settings' },
-                element('label', { class: 'field' }, element('span', {}, 'Ingress controller'), controller, element('datalist', { id: 'controllers' })),
+                element('label', { class: 'field' }, element('span', {}, 'Ingress controller'), controller,
+                    element('datalist', { id: 'controllers' })),
                 element('label', { class: 'field' }, element('span', {}, 'Memory for np (MB)'), memory),
-                element('button', { type: 'button', id: 'example', click: example }, 'Show an example'))),
+                element('button', { type: 'button', id: 'show-example', click: example }, 'Show an example'))),
         element('div', { class: 'command' }, element('code', {}, KUBECTL), copyButton('Copy', KUBECTL)));
 }
 
@@ -97,7 +104,8 @@ function listenForFiles() {
 // ---- From lists to tables
 
 function tableOf(side, wantsUnused) {
-    return runner.ask({ kind: 'table', words: namesOf(side), files: filesOf(side), controller: controllerName(), most: memoryMost(), wantsUnused });
+    const asked = { kind: 'table', words: namesOf(side), files: filesOf(side), controller: controllerName(), wantsUnused };
+    return runner.ask(Object.assign(asked, { most: memoryMost() }));
 }
 
 // What was given changed: np is asked anew.
@@ -168,7 +176,8 @@ function showFault(side, answer) {
     const fault = document.getElementById('fault');
     fault.hidden = false;
     fault.replaceChildren(element('h2', {}, answer.isStopped ? 'Stopped' : 'np gives no answer'),
-        element('pre', { class: 'answer fault' }, answer.said), element('p', { class: 'ended', 'data-status': answer.status }, endingText(answer)),
+        element('pre', { class: 'answer fault' }, answer.said),
+        element('p', { class: 'ended', 'data-status': answer.status }, endingText(answer)),
         ...faultParts(side, answer.said), commandPart(words));
 }
 
@@ -179,8 +188,8 @@ async function begin() {
         await runner.compiled;
     } catch (error) {
         showFault('now', { said: String(error), status: -1, seconds: 0, bytes: 0 });
-        document.getElementById('fault').prepend(element('p', {}, 'This browser does not run np.wasm: it takes WebAssembly with a 64-bit memory '
-            + '(Chrome or Edge from 133 on, Firefox from 134 on).'));
+        document.getElementById('fault').prepend(element('p', {}, 'This browser does not run np.wasm, which is WebAssembly with a 64-bit '
+            + 'memory: Chrome and Edge do from 133 on, Firefox from 134 on.'));
     }
     document.body.dataset.ready = 'yes';
 }

@@ -54,7 +54,8 @@ function otherEnds() {
         made(count) {
             const lists = numbered();
             const of = new Array(count).fill(-1);
-            for (const workload of Array.from(rows.keys()).sort((a, b) => a - b)) of[workload] = lists.of(JSON.stringify(rows.get(workload)));
+            const workloads = Array.from(rows.keys()).sort((a, b) => a - b);
+            for (const workload of workloads) of[workload] = lists.of(JSON.stringify(rows.get(workload)));
             return { texts: ends.texts, lists: lists.texts.map(text => JSON.parse(text)), of };
         },
     };
@@ -96,8 +97,13 @@ function makeTable() {
         const mark = source !== undefined && destination === undefined && MARK.exec(row.destination);
         if (source !== undefined && destination !== undefined) {
             put(source, destination, numberOf(row.connections));
-            guess = { source, destination, value: numberOf(row.connections), lead: '{"connections":"' + row.connections + '","destination":"',
-                trail: '","source":"' + row.source + '"},' };
+            guess = {
+                source,
+                destination,
+                value: numberOf(row.connections),
+                lead: '{"connections":"' + row.connections + '","destination":"',
+                trail: '","source":"' + row.source + '"},',
+            };
             guessNext();
         } else if (mark) seeFamily(source, row.destination.slice(0, mark.index), mark[1], row.connections);
         else if (source !== undefined) ranges.add(source, SENT, row.destination, numberOf(row.connections));

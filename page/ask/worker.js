@@ -61,7 +61,8 @@ function answerTable(question) {
         if (exposed.status) readLines(question, list, table.seeName);
         const listed = readLines(question, list, table.seeRow);
         if (question.wantsUnused) readLines(question, ['unused', '--', ...names], line => { unused.push(line); });
-        return { status: 0, table: table.made(), unused, notes: listed.said, refused: exposed.status ? exposed.said : '', bytes: question.told.bytes };
+        const refused = exposed.status ? exposed.said : '';
+        return { status: 0, table: table.made(), unused, notes: listed.said, refused, bytes: question.told.bytes };
     } catch (error) {
         if (error.status === undefined) throw error;
         return { status: error.status, said: error.said, bytes: error.bytes };

@@ -27,7 +27,7 @@ _LINE = 120
 
 _WORKER = ["ask/host.js", "ask/table.js", "ask/worker.js"]
 # Those of a made page, but for the last, which shows what the page already has.
-_SCRIPTS = [*(name for name in SCRIPTS if name != "shown.js"), "ask/runner.js", "ask/inputs.js", "ask/questions.js", "ask/ask.js", "ask/start.js"]
+_SCRIPTS = [name for name in SCRIPTS if name != "shown.js"] + ["ask/%s.js" % name for name in ("runner", "inputs", "questions", "ask", "start")]
 _STYLES = ["page.css", "ask/ask.css"]
 
 
@@ -63,8 +63,7 @@ def page(top: Path, wasm: bytes) -> str:
     text = (top / "page" / "ask" / "ask.html").read_text(encoding="utf-8")
     text = text.replace("@script-digest@", _digest(parts["script"])).replace("@style-digest@", _digest(parts["style"]))
     text = text.replace("@version@", (top / "VERSION").read_text(encoding="utf-8").strip())
-    lines = (parts.get(line.strip().strip("@"), line) if re.fullmatch(r"@[a-z]+@\n", line) else line for line in text.splitlines(keepends=True))
-    return "".join(lines)
+    return re.sub(r"(?m)^@([a-z]+)@\n", lambda found: parts[found.group(1)], text)
 
 
 def _unpacked(text: str) -> str:

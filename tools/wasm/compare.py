@@ -3,7 +3,8 @@
 
 tools/wasm/compare.py [--wasm FILE] chromium|firefox-esr [CASE..]
 
-The cases are those that run the program; of the others each is named below, with what it needs. All transcripts are one of them. `./test` runs them, on tools/wasm/through in the place of dist/np, which hands each run to the browser, by a server of this tool.
+The cases are those that run the program; of the others each is named below, with what it needs. All transcripts are one of them. `./test`
+runs them, on tools/wasm/through in the place of dist/np, which hands each run to the browser, by a server of this tool.
 """
 from __future__ import annotations
 

@@ -1,7 +1,7 @@
 /* Tries heap.c natively, over memory of its own, with random calls: cc -w -o heap_test heap_test.c && ./heap_test
  *
- * Of each block it is looked at that it lies at a multiple of 16, within memory and apart from all others, and that it keeps its bytes until
- * it is given back: also where it is made larger or smaller, and where that is refused. What was given back has to serve again.
+ * Of each block it is looked at that it lies at a multiple of 16, within memory and apart from all others, and that it keeps its bytes
+ * until it is given back: also where it is made larger or smaller, and where that is refused. What was given back has to serve again.
  */
 #include <stdint.h>
 #include <stdio.h>

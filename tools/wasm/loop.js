@@ -1,13 +1,15 @@
 // A worker of the page that tools/wasm/compare.py has a browser open: takes runs from the server, one by one, and hands back what came of
 // them. host.js stands before it.
 
-const LIMIT = 4e9;
+const LIMIT = 4e9, PIECE = 32768;
 
 function bytesOf(text) { return Uint8Array.from(atob(text), letter => letter.charCodeAt(0)); }
 
 function codedOf(pieces) {
     let text = '';
-    for (const piece of pieces) for (let at = 0; at < piece.length; at += 32768) text += String.fromCharCode(...piece.subarray(at, at + 32768));
+    for (const piece of pieces) {
+        for (let at = 0; at < piece.length; at += PIECE) text += String.fromCharCode(...piece.subarray(at, at + PIECE));
+    }
     return btoa(text);
 }
 

@@ -39,9 +39,11 @@ def kit_folder() -> Path:
 
 def run(words: Sequence[str], folder: Path) -> None:
     """Runs a command in a folder, at the least of priorities, and fails with what it says where it fails."""
-    ended = subprocess.run(["nice", *words], cwd=folder, stdin=subprocess.DEVNULL, stdout=subprocess.PIPE, stderr=subprocess.STDOUT, check=False)
+    ended = subprocess.run(["nice", *words], cwd=folder, stdin=subprocess.DEVNULL, stdout=subprocess.PIPE, stderr=subprocess.STDOUT,
+                           check=False)
     if ended.returncode:
-        raise Failed("%s ended with status %d:\n%s" % (Path(words[0]).name, ended.returncode, ended.stdout.decode("utf-8", "replace")[-2000:]))
+        said = ended.stdout.decode("utf-8", "replace")[-2000:]
+        raise Failed("%s ended with status %d:\n%s" % (Path(words[0]).name, ended.returncode, said))
 
 
 def keeping_toolchain(kit: Path, folder: Path, module: Path) -> Path:

@@ -1,7 +1,7 @@
 """What the script `through` beside this file does: a run of np.wasm by the server of tools/wasm/compare.py, in the place of one of np.
 
-Each word that names a file is an input that np may open, and so is what stands behind the `=` of an option; of each at most as many bytes are
-read as np reads, and one more. There may be thousands of such runs, so that little is loaded.
+Each word that names a file is an input that np may open, and so is what stands behind the `=` of an option; of each at most as many bytes
+are read as np reads, and one more. There may be thousands of such runs, so that little is loaded.
 """
 from __future__ import annotations
 
@@ -99,7 +99,8 @@ def main() -> int:
     full = refused()
     words = [os.fsencode(word) for word in sys.argv[1:]]
     given = read_all(_STANDARD_INPUT)
-    made = asked({"words": [coded(word) for word in words], "files": files_of(words), "input": None if given is None else coded(given), "full": full})
+    made = asked({"words": [coded(word) for word in words], "files": files_of(words), "full": full,
+                  "input": None if given is None else coded(given)})
     for output, name in ((1, "out"), (2, "err")):
         if output not in full:
             write_all(output, binascii.a2b_base64(made[name]))

@@ -74,8 +74,8 @@ def translate(kit: Path, module: Path, room: Path) -> bytes:
         objects.append(str(room / (name + ".o")))
         run([clang, *_FOR_WASM, *_FOR_C, str(HERE / (name + ".c")), "-o", objects[-1]], room)
     run([str(kit / "toolchain" / "bin" / "llvm-ar"), "rcs", "libnp.a", *objects], room)
-    run([str(kit / "bin" / "rattle-link"), "--target", "wasm64-unknown-unknown", "--toolchain", str(kit / "toolchain"), "--stack", str(_STACK),
-         "-o", "np.wasm", "libnp.a"], room)
+    run([str(kit / "bin" / "rattle-link"), "--target", "wasm64-unknown-unknown", "--toolchain", str(kit / "toolchain"),
+         "--stack", str(_STACK), "-o", "np.wasm", "libnp.a"], room)
     return (room / "np.wasm").read_bytes()
 
 
