@@ -53,6 +53,7 @@ def show(browser, side, *paths):
 
 def refusal(browser, *paths):
     """Drops files that np refuses: what the page says of them, the status, and the objects that it shows."""
+    browser.run("document.getElementById('fault').hidden = true")
     drop(browser, "now", *paths)
     await_true(browser, "!document.getElementById('fault').hidden")
     status = browser.run("return document.querySelector('#fault .ended').dataset.status")
