@@ -141,7 +141,7 @@ function changesOfSort(app, sort, changes) {
     const head = ['', 'From', 'To', 'Before', 'After'].map(text => element('th', { scope: 'col' }, text));
     return element('div', {},
         element('h3', {}, CHANGE_WORDS[sort] + ' (' + count(changes.length, 'line', 'lines') + ')'),
-        element('table', { class: 'rows-table' }, element('thead', {}, element('tr', {}, ...head)),
+        element('table', { class: 'rows-table', 'aria-label': CHANGE_WORDS[sort] }, element('thead', {}, element('tr', {}, ...head)),
             element('tbody', {}, ...changes.slice(0, app.listed).map(change => changeRow(app, change)))),
         changes.length > app.listed && element('button', { type: 'button', class: 'more', click: () => {
             app.listed += LIST_PART * 5;

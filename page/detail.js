@@ -78,7 +78,7 @@ function manyDetail(app, from, to) {
         element('p', {}, ...Array.from(new Set(namespaces)).map(end => element('button', { type: 'button',
             click: () => toggle(app, end) }, 'Open or close ' + end))),
         element('h3', {}, rows.length ? 'Rows in which something passes (' + rows.length.toLocaleString('en') + ')' : 'Nothing passes'),
-        element('table', { class: 'rows-table' }, element('tbody', {}, ...rows.slice(0, LIST_PART).map(row => listRow(app, row)))),
+        element('table', { class: 'rows-table', 'aria-label': 'Rows' }, element('tbody', {}, ...rows.slice(0, LIST_PART).map(row => listRow(app, row)))),
         rows.length > LIST_PART && element('p', { class: 'hint' }, 'The first ' + LIST_PART + ' are shown; the list has all of them.'));
 }
 
@@ -124,7 +124,8 @@ function explained(app, from, to) {
     const answer = app.explained.get(from + ' ' + to);
     return element('div', { class: 'explained' },
         answer ? element('pre', { class: 'answer' }, ...answer.map(line => element('span', { class: deciderClass(line) }, line + '\n')))
-            : element('p', { class: 'hint' }, 'The rule is named by np, for every port and at both ends:'),
+            : page.explain ? page.explain(from, to)
+                : element('p', { class: 'hint' }, 'The rule is named by np, for every port and at both ends:'),
         ...explainCommands(from, to).map(command => element('div', { class: 'command' },
             element('code', {}, command), copyButton('Copy', command))));
 }

@@ -27,7 +27,7 @@ function listSection(app) {
             copyButton(copyLabel, () => listCsv(app))),
         app.table.only && element('p', { class: 'hint' },
             'This page has the rows with an end in the namespace ' + app.table.only + ' alone.'),
-        element('table', { class: 'rows-table' },
+        element('table', { class: 'rows-table', 'aria-label': 'Rows' },
             element('thead', {}, element('tr', {}, ...head)),
             element('tbody', {}, ...taken.rows.map(row => listRow(app, row)))),
         !taken.lines && element('p', { class: 'hint' }, 'No row is kept by the filter.'),

@@ -1,6 +1,7 @@
 // The page: what stands at its top, the views, and what its keys do.
 
-const page = JSON.parse(document.getElementById('data').textContent);
+// What is shown, as np answered it, and the state of the page; both are there once `show` is called.
+let page = null, app = null;
 
 const VIEWS = [
     { name: 'matrix', label: 'Matrix', sections: [matrixSection], beside: [listSection] },
@@ -10,18 +11,6 @@ const VIEWS = [
     { name: 'exposure', label: 'New pods', sections: [exposureSection], beside: [] },
     { name: 'unused', label: 'Unused rules', sections: [unusedSection], beside: [] },
 ];
-
-const app = {
-    table: readTable(page.table),
-    before: page.before && readTable(page.before),
-    explained: readExplained(page.explained),
-    refused: page.refused.length ? 'np does not show what new pods would reach here: ' + page.refused.join(' ') : '',
-    listed: LIST_PART,
-    state: readState(location.hash),
-    change,
-    draw,
-};
-app.changes = app.before ? changesBetween(app.before, app.table) : [];
 
 // ---- What new pods would reach, and the rules that decide nothing
 
@@ -53,7 +42,8 @@ function exposureSection() {
             'What each workload allows a pod that nobody has written yet. Of a workload and a direction, the first row whose '
             + 'requirements the pod meets is its verdict'
             + (state.passing ? '; rows where nothing passes are hidden by the filter, and count all the same.' : '.')),
-        element('table', { class: 'rows-table' }, element('tbody', {}, ...rows.slice(0, app.listed).map(exposureRow))),
+        element('table', { class: 'rows-table', 'aria-label': 'New pods' },
+            element('tbody', {}, ...rows.slice(0, app.listed).map(exposureRow))),
         rows.length > app.listed && moreButton());
 }
 
@@ -187,12 +177,19 @@ function draw() {
         button.setAttribute('aria-current', button.dataset.view === view.name ? 'page' : 'false');
     }
     showControls();
+    if (page.terminal) showTerminal(page.terminal(view.name, app.state));
     document.getElementById('view').replaceChildren(...view.sections.map(section => section(app)));
     document.getElementById('beside').replaceChildren(...view.beside.map(section => section(app)));
     drawDetail();
     // Who opened a line by a key is at that line afterwards.
     const again = key && Array.from(document.querySelectorAll('[data-key]')).find(made => made.dataset.key === key);
     if (again) again.focus();
+}
+
+// The command lines that give in a terminal what the view shows.
+function showTerminal(lines) {
+    document.getElementById('terminal').replaceChildren(...lines.map(line => element('div', { class: 'command' },
+        element('code', {}, line), copyButton('Copy', line))));
 }
 
 function drawDetail() {
@@ -233,12 +230,29 @@ function pressed(event) {
     }
 }
 
+function makeApp() {
+    const before = page.before && readTable(page.before);
+    const table = readTable(page.table);
+    return {
+        table,
+        before,
+        changes: before ? changesBetween(before, table) : [],
+        explained: readExplained(page.explained),
+        refused: page.refused.length ? 'np does not show what new pods would reach here: ' + page.refused.join(' ') : '',
+        listed: LIST_PART,
+        state: readState(location.hash),
+        change,
+        draw,
+    };
+}
+
 function build() {
     document.title = page.title[0] + ' – np';
-    document.getElementById('page').append(
+    document.getElementById('page').replaceChildren(
         element('header', {},
             element('h1', {}, page.title[0]),
-            facts(), viewButtons(), toolbar(),
+            facts(), viewButtons(),
+            page.terminal && element('div', { id: 'terminal', 'aria-label': 'In a terminal' }), toolbar(),
             ...page.notes.map(note => element('p', { class: 'note' }, note))),
         element('main', {},
             element('div', { id: 'view' }),
@@ -249,9 +263,17 @@ function build() {
             keysHelp(),
             element('p', {}, 'Every row, answer and list of this page is np’s. '
                 + 'The page itself only lays out, filters and searches.')));
-    document.addEventListener('keydown', pressed);
-    window.addEventListener('hashchange', () => { app.state = readState(location.hash); draw(); });
-    draw();
 }
 
-build();
+// Shows what np answered, in the place of what was shown.
+function show(answered) {
+    const isFirst = !page;
+    page = answered;
+    app = makeApp();
+    build();
+    if (isFirst) {
+        document.addEventListener('keydown', pressed);
+        window.addEventListener('hashchange', () => { app.state = readState(location.hash); draw(); });
+    }
+    draw();
+}

@@ -3,6 +3,7 @@
 
 const MANY_LINES = 60;
 const MOST_LINES = 150;
+const MOST_LABELLED = 4000;
 const SIGNS = ['·', '◐', '●'];
 const LEVEL_WORDS = ['nothing passes', 'some passes', 'everything passes'];
 const LEVEL_CLASSES = ['none', 'some', 'all'];
@@ -221,6 +222,7 @@ function matrixSection(app) {
     grid.addEventListener('keydown', event => moveInMatrix(app, matrix, event));
     grid.addEventListener('mouseover', event => tellCell(matrix, event));
     grid.addEventListener('focusin', event => tellCell(matrix, event));
+    if (matrix.senders.length * matrix.receivers.length <= MOST_LABELLED) labelCells(matrix);
     const first = grid.querySelector('tbody td:not(.left-out)');
     if (first) first.tabIndex = 0;
     const nothing = app.table.names.length ? 'Nothing that passes is kept by the filter.' : 'The cluster has no workloads.';
@@ -322,12 +324,19 @@ function lineHead(app, line) {
         !line.members && line.label);
 }
 
-// A cell has as little as can be: there may be ten thousand of them. What it says in words is told when it is pointed at.
+// A cell has as little as can be: there may be ten thousand of them. What it says in words is told when it is pointed at, and from the
+// start where there are few.
 function matrixCell(cell, edge) {
     const made = document.createElement('td');
     made.className = (cell === null ? 'left-out' : LEVEL_CLASSES[cell.level]) + edge;
     if (cell !== null) made.textContent = SIGNS[cell.level];
     return made;
+}
+
+function labelCells(matrix) {
+    matrix.cells.forEach((row, r) => row.forEach((cell, c) => {
+        if (cell !== null) matrix.rows[r].cells[c + 1].setAttribute('aria-label', cellWords(matrix, r, c));
+    }));
 }
 
 function cellWords(matrix, r, c) {

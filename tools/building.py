@@ -8,7 +8,7 @@ import subprocess
 import sys
 import tempfile
 from pathlib import Path
-from typing import IO, Dict, Optional
+from typing import IO, Callable, Dict, Optional
 
 import interrupts
 import sources
@@ -105,9 +105,10 @@ def _keep_log(log: Path) -> None:
     say("np: %s has what the prover said" % kept)
 
 
-def build(top: Path, program: Path) -> bool:
-    """Proves the crates of the program and builds it at the path `program`. Tests and edits are not tried: `./prove` does. Returns whether
-    it was built; where not, it is said why."""
+def build(top: Path, program: Path, use: Optional[Callable[[Path], None]] = None) -> bool:
+    """Proves the crates of the program and builds it at the path `program`. Tests and edits are not tried: `./prove` does. Then the
+    repository in which that was done is used, if so asked, before it goes. Returns whether the program was built; where not, it is said
+    why."""
     if not shutil.which("rt"):
         say("np: the program has to be built from its sources, which needs the Rattle kit (its command rt is not on the path)")
         say("np: with the sources as they were released (git status shows what was changed) no kit is needed")
@@ -128,4 +129,6 @@ def build(top: Path, program: Path) -> bool:
             return False
         shutil.copyfile(built, program)
         program.chmod(0o755)
+        if use:
+            use(repository)
     return True

@@ -21,6 +21,7 @@ _PACKAGES = {
     "dpkg-deb": "dpkg",
     "kubectl": "kubernetes-client",
     "man": "man-db",
+    "musl-gcc": "musl-tools",
     "strip": "binutils",
 }
 

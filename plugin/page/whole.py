@@ -14,7 +14,7 @@ from plugin.said import encoded, say, stop, write
 # The parts of the page, in their order.
 STYLES = ("page.css",)
 SCRIPTS = ("model.js", "rows.js", "changes.js", "state.js", "element.js", "detail.js", "list.js", "matrix.js", "graph.js",
-           "main.js")
+           "main.js", "shown.js")
 
 # How many bytes a page has at the most: what opens well. NP_PAGE_MOST in the environment may be another number.
 _MOST_BYTES = "5000000"

@@ -1,0 +1,165 @@
+#!/usr/bin/env python3
+"""Runs the stored cases and the transcripts through np.wasm, in a browser, and compares every byte with what is wanted.
+
+tools/wasm/compare.py [--wasm FILE] chromium|firefox-esr [CASE..]
+
+The cases are those that run the program; of the others each is named below, with what it needs. All transcripts are one of them. `./test`
+runs them, on tools/wasm/through in the place of dist/np, which hands each run to the browser, by a server of this tool.
+"""
+from __future__ import annotations
+
+import json
+import os
+import queue
+import subprocess
+import sys
+import tempfile
+import threading
+from http.server import BaseHTTPRequestHandler, ThreadingHTTPServer
+from pathlib import Path
+from typing import Any, Dict, List
+
+HERE = Path(os.path.abspath(__file__)).parent
+TOP = HERE.parent.parent
+_USAGE = "usage: tools/wasm/compare.py [--wasm FILE] chromium|firefox-esr [CASE..]"
+
+# What browsers are started with. The profile is a new folder, so that nothing of the machine's own is read.
+_BROWSERS = {
+    "chromium": ["chromium", "--headless=new", "--no-sandbox", "--disable-gpu", "--disable-dev-shm-usage", "--no-first-run", "--user-data-dir=%s"],
+    "firefox-esr": ["firefox-esr", "--headless", "--no-remote", "--profile", "%s"],
+}
+
+# Cases that run the program and are about what np.wasm has not.
+_NOT_HERE = {
+    "a-cut-report-is-its-beginning": "a bound on files",
+    "case-that-needs-a-command": "./test itself",
+    "fault-out-of-memory": "a bound of the system on memory",
+    "from-another-folder": "./np",
+    "kept-program-has-no-symbols": "the file dist/np",
+    "no-kit-on-the-path": "./np",
+    "package-manual": "the package",
+    "transcripts-that-are-false": "tools/transcripts.py itself",
+}
+
+_PAGE = "<!DOCTYPE html><title>np.wasm</title><script>for (let i = 0; i < %d; i += 1) new Worker('/worker.js');</script>"
+
+
+class Runs:
+    """Runs that wait for the browser, and what came of those that it made."""
+
+    def __init__(self) -> None:
+        self.waiting: "queue.Queue[Dict[str, Any]]" = queue.Queue()
+        self._made: Dict[int, "queue.Queue[bytes]"] = {}
+        self._lock = threading.Lock()
+        self.count = 0
+
+    def made(self, run: Dict[str, Any]) -> bytes:
+        """What came of a run, once the browser has made it."""
+        answer: "queue.Queue[bytes]" = queue.Queue()
+        with self._lock:
+            self.count += 1
+            run["number"] = self.count
+            self._made[self.count] = answer
+        self.waiting.put(run)
+        return answer.get()
+
+    def end(self, number: int, answer: bytes) -> None:
+        """Tells what came of a run."""
+        self._made.pop(number).put(answer)
+
+
+def handler_of(runs: Runs, wasm: bytes) -> type:
+    """What answers the browser and the stand-ins for the program."""
+    files = {
+        "/": ("text/html", (_PAGE % (os.cpu_count() or 2)).encode()),
+        "/worker.js": ("text/javascript", (TOP / "page" / "ask" / "host.js").read_bytes() + (HERE / "loop.js").read_bytes()),
+        "/np.wasm": ("application/wasm", wasm),
+    }
+
+    class Handler(BaseHTTPRequestHandler):
+        protocol_version = "HTTP/1.1"
+
+        def _give(self, kind: str, data: bytes) -> None:
+            self.send_response(200)
+            self.send_header("Content-Type", kind)
+            self.send_header("Content-Length", str(len(data)))
+            self.end_headers()
+            self.wfile.write(data)
+
+        def _give_next(self) -> None:
+            try:
+                self._give("application/json", json.dumps(runs.waiting.get(timeout=20)).encode())
+            except queue.Empty:
+                self._give("application/json", b"{}")
+
+        def do_GET(self) -> None:
+            if self.path in files:
+                self._give(*files[self.path])
+            else:
+                self.send_error(404)
+
+        def do_POST(self) -> None:
+            body = self.rfile.read(int(self.headers["Content-Length"] or 0))
+            if self.path == "/run":
+                self._give("application/json", runs.made(json.loads(body)))
+            elif self.path == "/next":
+                self._give_next()
+            else:
+                runs.end(int(self.path.rpartition("/")[2]), body)
+                self._give("text/plain", b"")
+
+        def log_message(self, *_: Any) -> None:
+            pass
+
+    return Handler
+
+
+def start_browser(name: str, profile: str, top: str) -> "subprocess.Popen[bytes]":
+    """Starts a browser on the server's page."""
+    words = [word % profile if "%s" in word else word for word in _BROWSERS[name]]
+    quiet = dict(os.environ, DBUS_SESSION_BUS_ADDRESS="disabled:", MOZ_CRASHREPORTER_DISABLE="1")
+    return subprocess.Popen([*words, top + "/"], stdin=subprocess.DEVNULL, stdout=subprocess.DEVNULL, stderr=subprocess.DEVNULL, env=quiet)
+
+
+def cases() -> List[str]:
+    """The cases that run the program, and nothing that np.wasm has not."""
+    found = []
+    for folder in sorted((TOP / "cases").iterdir()):
+        script = folder / "run"
+        runs_np = not script.exists() or "$NP" in script.read_text(encoding="utf-8")
+        if (folder / "words").exists() and runs_np and folder.name not in _NOT_HERE:
+            found.append(folder.name)
+    return found
+
+
+def compare(browser: str, wasm: Path, names: List[str]) -> int:
+    """Runs the cases, and returns the status of ./test."""
+    runs = Runs()
+    server = ThreadingHTTPServer(("127.0.0.1", 0), handler_of(runs, wasm.read_bytes()))
+    threading.Thread(target=server.serve_forever, daemon=True).start()
+    top = "http://127.0.0.1:%d" % server.server_address[1]
+    with tempfile.TemporaryDirectory(ignore_cleanup_errors=True) if sys.version_info >= (3, 10) else tempfile.TemporaryDirectory() as profile:
+        child = start_browser(browser, profile, top)
+        try:
+            tested = dict(os.environ, NP_TESTED=str(HERE / "through"), NP_WASM_SERVER=top)
+            status = subprocess.run([str(TOP / "test"), *names], env=tested, check=False).returncode
+        finally:
+            child.terminate()
+            child.wait()
+    print("%d runs of np.wasm in %s" % (runs.count, browser))
+    return status
+
+
+def main(words: List[str]) -> int:
+    """Does what the words of the command line ask for, and returns the status."""
+    wasm = TOP / "dist" / "np.wasm"
+    if words[:1] == ["--wasm"] and len(words) > 1:
+        wasm, words = Path(words[1]), words[2:]
+    if not words or words[0] not in _BROWSERS:
+        print(_USAGE, file=sys.stderr)
+        return 2
+    return compare(words[0], wasm, words[1:] or cases())
+
+
+if __name__ == "__main__":
+    sys.exit(main(sys.argv[1:]))
