@@ -1,5 +1,5 @@
 -- The explanation of two ends: its connections, and when two are alike. For `explain_sides`, `explanations_are_right` and 3 more.
-use Rattle.std.proofs.Common.{◌≡◌, ◌↔◌, IsTrue, List, [], ◌∷◌, Bool, true, false, ◌&&◌, ◌||◌, filter, map, refl, subst, sym, ap, ap₂, ◌∙◌, ℕ, ◌==◌}
+use Rattle.std.proofs.Common.{◌≡◌, ◌↔◌, IsTrue, List, [], ◌∷◌, Bool, true, false, ◌&&◌, ◌||◌, MatchBool, not, filter, map, refl, subst, sym, ap, ap₂, ◌∙◌, ℕ, ◌==◌}
 use Rattle.std.specs.Bool.{Decides}
 use Rattle.std.specs.List.{list_any}
 use Rattle.std.specs.Cmp.Lexicographic.{pointwise}
@@ -7,6 +7,7 @@ use Rattle.std.proofs.lemmas.Bool.Decides.{Decides-and, Decides-eqb}
 use Rattle.std.proofs.lemmas.Slice.Eq.{slice_eq-Decides}
 use Rattle.std.proofs.Math.Bool.{or-false, and-true, and-false}
 use Rattle.np_explain.specs.Prelude.{AreRightParts, Decider, Egress, End, EstateLists, Explanation, Family, Ingress, IsRightFor, NoSide, Part, PortSpot, Range, decider_between, explanation_of, packet_between, parts_of, passes_between, same_conns, same_decider, same_part, same_parts, same_sides, some_allows}
+use Rattle.np_base.proofs.Bools.{not_itself}
 use Rattle.np_base.specs.Ranges.{are_same_range}
 use Rattle.np_conns.proofs.ConnLemmas.{conns_of-has, conns_of-set}
 use Rattle.np_conns.specs.Prelude.{Conns, IsConns, conns_of, has_spot, is_spot}
@@ -133,6 +134,15 @@ same_conns-Decides a b =
       λ same. let all = parts.0 same in ap of_tcp all.0 ∙ ap of_udp all.1.0 ∙ ap of_sctp all.1.1,
       λ same. parts.1 (ap (λ (set : Conns). set.tcp) same, (ap (λ (set : Conns). set.udp) same, ap (λ (set : Conns). set.sctp) same)),
     )
+
+-- what a set answers of another tells the same
+pub same_conns_answer : (a b : Conns) (answer : Bool) → MatchBool answer (a ≡ b) ((spot : PortSpot) × (has_spot a spot ≡ not (has_spot b spot))) → answer ≡ same_conns a b
+same_conns_answer a b true same = sym ((same_conns-Decides a b).1 same)
+same_conns_answer a b false other = go (same_conns a b) refl
+  where
+    go : (x : Bool) → same_conns a b ≡ x → false ≡ x
+    go true is = absurd (not_itself (has_spot b other.0) (sym (ap (λ (set : Conns). has_spot set other.0) ((same_conns-Decides a b).0 is)) ∙ other.1))
+    go false is = refl
 
 same_part-Decides : (a b : Part) → Decides (same_part a b) (a ≡ b)
 same_part-Decides a b =

@@ -6,7 +6,8 @@ use Rattle.std.proofs.lemmas.Bool.{false≢true, true≢false}
 use Rattle.std.proofs.lemmas.List.{at_drop_more, drop_all}
 use Rattle.np_check.specs.Prelude.{first_of}
 use Rattle.np_statements.specs.Prelude.{AskedLine, Broken, EndFault, EstateLists, GivesEnds, IsAsked, IsWellLine, StatementLine, asked_of, broken_among, broken_of, ends_found, first_broken, ◌>>=◌}
-use Rattle.np_statements.proofs.FoundLemmas.{asked-by, asked-known, found-behind}
+use Rattle.np_statements.proofs.FoundLemmas.{asked-by, asked-known, found-behind, length-found}
+use Rattle.np_statements.proofs.StepLemmas.{same_ok, then-ok}
 use Rattle.np_statements.specs.declared.end_fault.EndFault.TheVariants.{NoMemory, UnknownEnd}
 
 -- ---- the first of some lines
@@ -89,6 +90,18 @@ pub known-line : (lists : EstateLists) (line : StatementLine) (asked : AskedLine
 known-line lists line asked well asks = asked-known lists line asked well (asked-by lists line asked asks)
 
 -- ---- by what all lines ask
+
+pub record IsFoundAmong (lists : EstateLists) (lines : List StatementLine) (broken : Option Broken) : Type 0 where
+  pub asked : List AskedLine
+  pub found : ends_found lists lines ≡ Ok asked
+  pub many : length asked ≡ length lines
+  pub first : first_broken lists asked ≡ broken
+
+pub among-found : (lists : EstateLists) (lines : List StatementLine) (broken : Option Broken) → broken_among lists lines ≡ Ok broken → IsFoundAmong lists lines broken
+unfolding broken_among
+among-found lists lines broken is =
+    let (asked, found, last) = then-ok (ends_found lists lines) (λ all. Ok (first_broken lists all)) broken is in
+    record { asked = asked; found = found; many = length-found lists lines asked found; first = same_ok (first_broken lists asked) broken last }
 
 pub among-unknown : (lists : EstateLists) (lines : List StatementLine) (name : List ℕ) → broken_among lists lines ≡ Err name → ends_found lists lines ≡ Err name
 unfolding broken_among
