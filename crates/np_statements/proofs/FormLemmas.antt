@@ -71,10 +71,12 @@ names-ascend lists lawful =
     subst (λ (workloads : List Workload). IsStrictlySortedBy (slice_cmp nat_cmp) (map (λ (one : Workload). one.name) workloads)) (sym (workloads-are lists))
     (workloads-by_name lists (few-workloads lists lawful))
 
+no_workload : Workload
+no_workload = record { name = []; members = [] }
+
 -- an earlier workload has another name
 names-differ : (lists : EstateLists) (a b : ℕ) → IsLawful lists → a < b → IsWorkload lists b → name_of (folding_of lists) a ≢ name_of (folding_of lists) b
 names-differ lists a b lawful before within same =
-    let no_workload : Workload = record { name = []; members = [] } in
     let ws = (folding_of lists).workloads in
     let in_a : IsWorkload lists a = omega arith in
     let names = map (λ (one : Workload). one.name) ws in
