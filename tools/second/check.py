@@ -141,7 +141,7 @@ class Checker:
         """The ends that a form names: workloads in the order of their numbers, or the first addresses of stretches."""
         cluster = self.cluster
         if form.kind in ("addresses", "block"):
-            return [address for address, _ in cluster.stretches.all(form.block)]
+            return [address for address, _ in cluster.stretches if form.block is None or form.block.has(address)]
         if form.kind == "workload":
             return [cluster.number_named(form.name)]
         numbers = range(len(cluster.workloads))

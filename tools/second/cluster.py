@@ -5,7 +5,7 @@ from .addresses import Address, Cidr
 from .model import EGRESS, INGRESS, Estate, Pod, Selector, families_of
 from .reading import Refused
 from .sides import End, PodEnd, Rules
-from .spots import Space, Span, Stretches, blocks_of, policies_of, rules_of, spans_of
+from .spots import Space, Span, blocks_of, policies_of, rules_of, spans_of, stretches_of
 
 MOST_WORKLOADS = 2000
 
@@ -85,7 +85,7 @@ class Cluster:
         self.estate = estate
         self.workloads = workloads
         self.space = Space(spans_of(estate) + list(spans))
-        self.stretches = Stretches(blocks_of(estate) + list(blocks))
+        self.stretches = stretches_of(blocks_of(estate) + list(blocks))
         self.rules = Rules(estate, self.space)
         self.ends: List[PodEnd] = [self.rules.end_of(pod) for pod in estate.pods]
         self.families = families_of(estate.pods)
@@ -124,7 +124,7 @@ class Cluster:
     def address_rows(self, workload: int, direction: str) -> List[Tuple[Address, int, int]]:
         """The fewest ranges such that the same passes at each address of one: its first address, its last number, and the spots."""
         rows: List[Tuple[Address, int, int]] = []
-        for address, last in self.stretches.all():
+        for address, last in self.stretches:
             spots = self.address_allows(workload, direction, address)
             if rows and rows[-1][0].family == address.family and rows[-1][2] == spots:
                 rows[-1] = (rows[-1][0], last, spots)

@@ -116,7 +116,7 @@ def far_ends(cluster: Cluster, place: int) -> Iterator[Tuple[End, int]]:
     others = dict.fromkeys(end for other, end in enumerate(cluster.ends) if other != place)
     for end in others:
         yield from ((end, family) for family in cluster.families)
-    for address, _ in cluster.stretches.all():
+    for address, _ in cluster.stretches:
         yield address, address.family
 
 

@@ -6,7 +6,7 @@ from bisect import bisect_left
 from functools import lru_cache
 from typing import Dict, Iterable, List, NamedTuple, Optional, Set, Tuple
 
-from .addresses import FAMILIES, WIDTHS, Address, Cidr
+from .addresses import WIDTHS, Address, Cidr
 from .model import PROTOCOL_NAMES, TCP, AdminPolicy, Estate, PortEntry, Rule
 
 LAST_PORT = 65535
@@ -113,23 +113,14 @@ def spans_of(estate: Estate) -> List[Span]:
 
 # ---- addresses
 
-class Stretches:
-    """The numbers of each family in stretches between the ends of blocks: all addresses of one are treated alike."""
-
-    def __init__(self, blocks: Iterable[Cidr]) -> None:
-        cuts: Dict[int, Set[int]] = {4: {0}, 6: {0}}
-        for block in blocks:
-            cuts[block.family].update((block.base, block.end()))
-        self.starts = {family: sorted(cut for cut in cuts[family] if cut < 1 << WIDTHS[family]) for family in FAMILIES}
-
-    def all(self, within: Optional[Cidr] = None) -> List[Tuple[Address, int]]:
-        """The first address of each stretch, in a block where one is given, and the number of its last one, in ascending order."""
-        found = []
-        for family in FAMILIES:
-            own = self.starts[family]
-            pairs = zip(own, own[1:] + [1 << WIDTHS[family]])
-            found += [(Address(family, lo), hi - 1) for lo, hi in pairs if within is None or within.has(Address(family, lo))]
-        return found
+def stretches_of(blocks: Iterable[Cidr]) -> List[Tuple[Address, int]]:
+    """The first address of each stretch between two ends of blocks, and the number of its last one, in ascending order."""
+    found = []
+    for family, width in WIDTHS.items():
+        ends = {0, 1 << width}.union(*((block.base, block.end()) for block in blocks if block.family == family))
+        own = sorted(ends)
+        found += [(Address(family, lo), hi - 1) for lo, hi in zip(own, own[1:])]
+    return found
 
 
 def blocks_of(estate: Estate) -> List[Cidr]:
