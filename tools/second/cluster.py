@@ -75,10 +75,10 @@ class Cluster:
     def ends(self, source: Place, destination: Place) -> Optional[Tuple[End, End]]:
         """What stands for two places; for a workload that meets itself its first two pods, if it has two."""
         if isinstance(source, int) and source == destination:
-            own = [self.estate.pods[member].end for member in self.workloads[source].members]
-            return (own[0], own[1]) if len(own) > 1 else None
-        one, other = [place if isinstance(place, Address) else self.pod(place) for place in (source, destination)]
-        return one, other
+            own = [self.estate.pods[member].end for member in self.workloads[source].members[:2]]
+            return (own[0], own[1]) if len(own) == 2 else None
+        found: List[End] = [place if isinstance(place, Address) else self.pod(place) for place in (source, destination)]
+        return found[0], found[1]
 
     def allows(self, source: Place, destination: Place, family: int) -> int:
         """The spots at which packets of a family are allowed; a workload of one pod sends itself none."""
@@ -93,7 +93,7 @@ class Cluster:
         """The fewest ranges such that the same passes at each address of one: its first address, its last number, and the spots."""
         rows: List[Tuple[Address, int, int]] = []
         for address, last in self.stretches:
-            ends = (address, workload) if direction == INGRESS else (workload, address)
+            ends: Tuple[Place, Place] = (address, workload) if direction == INGRESS else (workload, address)
             spots = self.allows(*ends, address.family)
             if rows and rows[-1][0].family == address.family and rows[-1][2] == spots:
                 address = rows.pop()[0]

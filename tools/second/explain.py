@@ -1,10 +1,10 @@
 """`explain`, `evaluate` and `unused`: what decides packets, and which rules decide none (np_explain, np_unused)."""
 from collections import Counter
 from itertools import product
-from typing import Dict, List, Sequence, Set, Tuple
+from typing import Dict, List, Sequence, Set, Tuple, Union
 
 from .addresses import Address, address_text
-from .cluster import Cluster, Workload, told_apart
+from .cluster import Cluster, Place, Workload, told_apart
 from .model import DIRECTIONS, EGRESS, INGRESS, PROTOCOL_NAMES, Estate, Pod, Span
 from .reading import Refused
 from .sides import Decider, End, Part, placed
@@ -53,11 +53,11 @@ def shown_text(cluster: Cluster, names: List[str], mark: str, made: Explanation)
 def explain_reply(cluster: Cluster, words: Sequence[EndWord]) -> str:
     """The explanation of two ends, or the fault of theirs that stands first."""
     names = [word_text(word) for word in words]
-    source, destination = [word if isinstance(word, Address) else cluster.number_named(word) for word in words]
-    ends = cluster.ends(source, destination)
+    places: List[Place] = [word if isinstance(word, Address) else cluster.number_named(word) for word in words]
+    ends = cluster.ends(places[0], places[1])
     if ends is None:
         raise Refused("SameEnd " + names[0])
-    families = cluster.families_of(source, destination)
+    families = cluster.families_of(*places)
     made = [explanation_of(cluster, *ends, family) for family in families]
     return "".join(shown_text(cluster, names, mark, one) for mark, one in told_apart(families, made))
 
@@ -76,13 +76,13 @@ def evaluate_reply(estate: Estate, workloads: List[Workload], words: Sequence[En
     """The verdict of the packet, or the fault of its ends that stands first."""
     cluster = Cluster(estate, workloads, [packet])
     names = [word_text(word) for word in words]
-    found = [word if isinstance(word, Address) else listed_pod(estate, word) for word in words]
+    found: List[Union[Pod, Address]] = [word if isinstance(word, Address) else listed_pod(estate, word) for word in words]
     if found[0] == found[1] and isinstance(found[0], Pod):
         raise Refused("SameEnd " + names[0])
-    source, destination = [one if isinstance(one, Address) else one.end for one in found]
+    ends: List[End] = [one if isinstance(one, Address) else one.end for one in found]
     families = cluster.families_of(*found)
     spot = cluster.space.span(*packet)
-    verdicts = ["Allow" if cluster.rules.allows(source, destination, family) & spot else "Deny" for family in families]
+    verdicts = ["Allow" if cluster.rules.allows(ends[0], ends[1], family) & spot else "Deny" for family in families]
     return "".join("%s => %s%s : %s %d : %s\n" % (*names, mark, PROTOCOL_NAMES[packet.proto], packet.lo, verdict)
                    for mark, verdict in told_apart(families, verdicts))
 

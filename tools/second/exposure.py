@@ -59,8 +59,8 @@ def choices_of(asked: List[Asked]) -> Choices:
     """At each mentioned key its values, another one, and that there is none, but that a namespace always has a name."""
     made: Choices = {}
     for place, values in values_at(asked).items():
-        none = () if place == ("namespace", NAME_KEY) else (None,)
-        made[place] = (*values, "".join(values) + "a", *none)
+        found: List[Optional[str]] = [*values, "".join(values) + "a"]
+        made[place] = tuple(found if place == ("namespace", NAME_KEY) else found + [None])
     return made
 
 

@@ -4,7 +4,7 @@ from typing import Dict, Optional, Tuple, Union
 
 from . import values
 from .addresses import Address, address_of
-from .model import (TCP, Backend, Ingress, Labels, NamedPort, Namespace, ObjectName, PodSource, Selector, Service, ServicePort,
+from .model import (Backend, Ingress, Labels, NamedPort, Namespace, ObjectName, PodSource, Selector, Service, ServicePort,
                     label_requirement)
 from .values import Data, Shape, listed, member, one_of, optional, optional_or, refuse_if, required
 
@@ -26,7 +26,7 @@ def port_name(value: Data) -> Optional[str]:
 def container_port(value: Data) -> Optional[NamedPort]:
     """A container port, where it has a name."""
     called = optional("name", port_name, value)
-    proto = optional_or(TCP, "protocol", values.protocol_name, value)
+    proto = values.protocol(value)
     number = required("containerPort", values.port, value)
     return None if called is None else NamedPort(called, proto, number)
 
@@ -122,7 +122,7 @@ def target_port(value: Data) -> Union[int, str, None]:
 def service_port(value: Data) -> ServicePort:
     """A port of a service; it leads to the same port of the pods unless another is named."""
     called = optional("name", port_name, value)
-    proto = optional_or(TCP, "protocol", values.protocol_name, value)
+    proto = values.protocol(value)
     number = required("port", values.port, value)
     return ServicePort(called, proto, number, optional("targetPort", target_port, value) or number)
 

@@ -4,7 +4,7 @@ from typing import Dict, Tuple, Union
 
 from . import values
 from .addresses import cidr_of, is_strict_part
-from .model import (ADMIN, BASELINE, DIRECTIONS, EGRESS, EVERYTHING, INGRESS, NET, TCP, ObjectName, Peer, Policy, PortName, Requirement,
+from .model import (ADMIN, BASELINE, DIRECTIONS, EGRESS, EVERYTHING, INGRESS, NET, ObjectName, Peer, Policy, PortName, Requirement,
                     Rule, Selector, Span, is_word, label_requirement)
 from .values import Data, Shape, items_of, listed, member, one_of, optional, optional_or, passing, refuse_if, required
 
@@ -41,8 +41,6 @@ def selector(value: Data) -> Selector:
 
 # ---- ports
 
-# The member `protocol`, which is TCP where it is missing.
-protocol = partial(optional_or, TCP, "protocol", values.protocol_name)
 # The name of a container port: the empty text is BadPort, another that is no word BadField.
 port_name = passing(is_word, "BadField", passing(bool, "BadPort", values.text))
 
@@ -54,7 +52,7 @@ def port_value(value: Data) -> Union[int, str]:
 
 def net_port(value: Data) -> Union[Span, PortName]:
     """An entry of `ports` of a NetworkPolicy: one port, the ports up to another, a named port, or all ports."""
-    proto = protocol(value)
+    proto = values.protocol(value)
     first = optional("port", port_value, value)
     last = optional("endPort", passing(lambda end: isinstance(first, int) and first <= end, "BadPort", values.port), value)
     if first is None:
@@ -66,7 +64,7 @@ def net_port(value: Data) -> Union[Span, PortName]:
 
 def port_range(first_member: str, last_member: str, value: Data) -> Span:
     """`portRange` of an admin policy, and `portNumber`, which is a range of one port."""
-    proto = protocol(value)
+    proto = values.protocol(value)
     first = required(first_member, values.port, value)
     last = required(last_member, values.port, value)
     refuse_if(last < first, "BadPort", last_member)

@@ -6,7 +6,7 @@ from functools import partial
 from itertools import accumulate
 from typing import Any, Callable, Dict, Optional, Tuple, TypeVar, Union
 
-from .model import PROTOCOLS, ObjectName, is_name, is_word
+from .model import PROTOCOLS, TCP, ObjectName, is_name, is_word
 
 # A JSON value as Python has it. A number that is no whole one of 64 bits is a float.
 Data = Any
@@ -147,14 +147,15 @@ def written(reads: Callable[[str], Optional[A]], kind: str) -> Shape[A]:
     return read
 
 
-# Values of one type, else BadField; names, else BadName; words, else BadField; ports, else BadPort; protocols, else BadProtocol.
+# Values of one type, else BadField; names, else BadName; words, else BadField; ports, else BadPort.
 text: Shape[str] = passing(lambda value: isinstance(value, str), "BadField", lambda value: value)
 whole: Shape[int] = passing(lambda value: type(value) is int, "BadField", lambda value: value)
 flag: Shape[bool] = passing(lambda value: isinstance(value, bool), "BadField", lambda value: value)
 name = passing(is_name, "BadName", text)
 word = passing(is_word, "BadField", text)
 port = passing(lambda number: 1 <= number <= 65535, "BadPort", whole)
-protocol_name = written(PROTOCOLS.get, "BadProtocol")
+# The member `protocol`, which is TCP where it is missing, and another name than those of protocols BadProtocol.
+protocol = partial(optional_or, TCP, "protocol", written(PROTOCOLS.get, "BadProtocol"))
 # A namespace: a text that is empty, which stands for `default`, or a name.
 namespace = passing(is_name, "BadName", lambda value: text(value) or "default")
 
