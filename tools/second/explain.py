@@ -1,7 +1,7 @@
 """`explain`, `evaluate` and `unused`: what decides packets, and which rules decide none (np_explain, np_unused)."""
 from collections import Counter
 from itertools import product
-from typing import Dict, List, Sequence, Set, Tuple, Union
+from typing import Dict, List, Set, Tuple, Union
 
 from .addresses import Address, address_text
 from .cluster import Cluster, Place, Workload, told_apart
@@ -50,7 +50,7 @@ def shown_text(cluster: Cluster, names: List[str], mark: str, made: Explanation)
     return "".join(line + "\n" for line in lines)
 
 
-def explain_reply(cluster: Cluster, words: Sequence[EndWord]) -> str:
+def explain_reply(cluster: Cluster, words: List[EndWord]) -> str:
     """The explanation of two ends, or the fault of theirs that stands first."""
     names = [word_text(word) for word in words]
     places: List[Place] = [word if isinstance(word, Address) else cluster.number_named(word) for word in words]
@@ -72,7 +72,7 @@ def listed_pod(estate: Estate, word: str) -> Pod:
     raise Refused("UnknownEnd " + word)
 
 
-def evaluate_reply(estate: Estate, workloads: List[Workload], words: Sequence[EndWord], packet: Span) -> str:
+def evaluate_reply(estate: Estate, workloads: List[Workload], words: List[EndWord], packet: Span) -> str:
     """The verdict of the packet, or the fault of its ends that stands first."""
     cluster = Cluster(estate, workloads, [packet])
     names = [word_text(word) for word in words]

@@ -54,7 +54,7 @@ MISREADINGS: List[Misreading] = [
                "sum(item.finished and not item.host_network for", "sum(item.finished for"),
     Misreading("a template stands for a pod where no replicas are wanted", "objects.py", "None if replicas == 0 else found", "found"),
     Misreading("the top owner is the nearest one", "reading.py",
-               "for name in owners_of(item, controllers)])[-1]", "for name in owners_of(item, controllers)])[:2][-1]"),
+               "owners_of(item, controllers).values()][-1]", "owners_of(item, controllers).values()][:2][-1]"),
     Misreading("a headless service leads to its target", "table.py",
                "port.port if service.headless else port.target", "port.target"),
     Misreading("a UDP port of a service is one for backends", "table.py", "port.proto == TCP and backend.port ==", "backend.port =="),

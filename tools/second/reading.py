@@ -82,19 +82,19 @@ def must_have_no_cycle(controllers: Controllers) -> None:
 
 # ---- owners
 
-def owners_of(item: PodSource, controllers: Controllers) -> List[ObjectName]:
+def owners_of(item: PodSource, controllers: Controllers) -> Controllers:
     """The listed controllers over an item, the nearest first, up to the first that comes again."""
-    found: List[ObjectName] = []
+    found: Controllers = {}
     owner = item.owner
     while owner is not None and owner in controllers and owner not in found:
-        found.append(owner)
+        found[owner] = controllers[owner]
         owner = controllers[owner].owner
     return found
 
 
 def top_owner(item: PodSource, controllers: Controllers) -> ObjectName:
     """The last owner that the chain of an item reaches, listed or not, or it itself where it names none."""
-    top = ([item] + [controllers[name] for name in owners_of(item, controllers)])[-1]
+    top = [item, *owners_of(item, controllers).values()][-1]
     return top.owner or top.name
 
 

@@ -53,13 +53,12 @@ def speaks_of(policy: Policy, direction: str, p: PodEnd) -> bool:
 
 
 def peer_matches(namespace: str, peer: Peer, far: End, family: int) -> bool:
-    """Whether a peer in a policy of this namespace stands for the far end of packets of a family.
-
-    A block of a NetworkPolicy stands for addresses alone, and networks of other policies also for the pods that have one of that family."""
+    """Whether a peer in a policy of this namespace stands for the far end of packets of a family."""
     if not peer.cidrs:
         return isinstance(far, PodEnd) and pods_match(namespace, peer, far)
     if isinstance(far, Address):
         return any(block.has(far) for block in peer.cidrs) and not any(part.has(far) for part in peer.excepts)
+    # A block of a NetworkPolicy stands for addresses alone, networks of other policies also for the pods that have one of that family.
     return not namespace and any(block.has(one) for block in peer.cidrs for one in far.addresses if one.family == family)
 
 
@@ -107,7 +106,7 @@ class Rules:
         return spots
 
     def rule_spots(self, one: Placed, packets: Packets) -> int:
-        """The spots at which a rule matches; one without peers matches every far end, and one without ports every port."""
+        """The spots at which a rule matches; without peers, as a NetworkPolicy may have one, it matches every far end."""
         peers, ports = one.rule.peers, one.rule.ports
         if peers and not any(peer_matches(one.namespace, peer, packets.far, packets.family) for peer in peers):
             return 0

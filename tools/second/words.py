@@ -19,7 +19,6 @@ USAGE = """usage: np list [--format text|csv|json] [--report 1|2] [--controller 
        np sample N
 """
 
-
 # The options of each command, the values of those that need not be given, and those that must be.
 COMMANDS: Dict[str, Tuple[str, ...]] = {
     "list": ("format", "report", "controller", "focus", "side"),
@@ -41,10 +40,9 @@ class Job(NamedTuple):
     options: Dict[str, str]
     files: List[str]
 
-    def ends(self) -> Tuple[EndWord, EndWord]:
-        """The ends that `from` and `to` name: an address, or a name that has a `/`."""
-        source, destination = [address_of(self.options[name]) or self.options[name] for name in ("from", "to")]
-        return source, destination
+    def ends(self) -> List[EndWord]:
+        """The ends that `from` and `to` name."""
+        return [address_of(self.options[name]) or self.options[name] for name in ("from", "to")]
 
 
 # ---- values
