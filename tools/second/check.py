@@ -5,9 +5,9 @@ from typing import List, NamedTuple, Optional, Sequence, Tuple
 
 from .addresses import Address, Cidr, address_text, cidr_of
 from .cluster import Cluster, Place, Workload, mark
-from .model import PROTOCOL_NAMES, Estate, Span, is_name
+from .model import LAST_PORT, PROTOCOL_NAMES, Estate, Span, is_name
 from .reading import Refused
-from .spots import LAST_PORT, WHOLE, Conns, Runs, conns_text
+from .spots import WHOLE, Conns, Runs, conns_text
 
 RUN = re.compile(r"([0-9]{1,5})(?:-([0-9]{1,5}))?")
 
@@ -36,7 +36,7 @@ def have_gaps(runs: Runs) -> bool:
 
 
 def conns_read(text: str) -> Optional[Conns]:
-    """The set of connections whose text it is."""
+    """The set of connections whose text it is; whether all is spelled as it must be is seen of the whole text."""
     parts = {part.partition(" ")[0]: RUN.findall(part) for part in text.split("; ")}
     conns = tuple(tuple((int(lo), int(hi or lo)) for lo, hi in parts.get(name, ())) for name in PROTOCOL_NAMES)
     if text == "All Connections":

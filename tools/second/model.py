@@ -9,6 +9,7 @@ NAME_KEY = "kubernetes.io/metadata.name"
 PROTOCOL_NAMES = ("TCP", "UDP", "SCTP")
 PROTOCOLS = {name: proto for proto, name in enumerate(PROTOCOL_NAMES)}
 TCP = PROTOCOLS["TCP"]
+LAST_PORT = 65535
 INGRESS, EGRESS = "ingress", "egress"
 DIRECTIONS = (INGRESS, EGRESS)
 

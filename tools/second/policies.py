@@ -4,8 +4,8 @@ from typing import Dict, Tuple, Union
 
 from . import values
 from .addresses import cidr_of, is_strict_part
-from .model import (ADMIN, BASELINE, DIRECTIONS, EGRESS, EVERYTHING, INGRESS, NET, ObjectName, Peer, Policy, PortName, Requirement,
-                    Rule, Selector, Span, is_word, label_requirement)
+from .model import (ADMIN, BASELINE, DIRECTIONS, EGRESS, EVERYTHING, INGRESS, LAST_PORT, NET, ObjectName, Peer, Policy, PortName,
+                    Requirement, Rule, Selector, Span, is_word, label_requirement)
 from .values import Data, Shape, items_of, listed, member, one_of, optional, optional_or, passing, refuse_if, required
 
 ADMIN_VERSION = "policy.networking.k8s.io/v1alpha1"
@@ -56,7 +56,7 @@ def net_port(value: Data) -> Union[Span, PortName]:
     first = optional("port", port_value, value)
     last = optional("endPort", passing(lambda end: isinstance(first, int) and first <= end, "BadPort", values.port), value)
     if first is None:
-        return Span(proto, 1, 65535)
+        return Span(proto, 1, LAST_PORT)
     if isinstance(first, str):
         return PortName(proto, first)
     return Span(proto, first, first if last is None else last)

@@ -7,9 +7,8 @@ from functools import lru_cache
 from typing import Iterable, List, Tuple
 
 from .addresses import WIDTHS, Address, Cidr
-from .model import PROTOCOL_NAMES, PROTOCOLS, TCP, Estate, Span, peers_of, rules_of
+from .model import LAST_PORT, PROTOCOL_NAMES, PROTOCOLS, TCP, Estate, Span, peers_of, rules_of
 
-LAST_PORT = 65535
 # The ranges of the ports of a protocol, with gaps between them, and those of each protocol.
 Runs = Tuple[Tuple[int, int], ...]
 Conns = Tuple[Runs, ...]

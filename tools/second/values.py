@@ -6,7 +6,7 @@ from functools import partial
 from itertools import accumulate
 from typing import Any, Callable, Dict, Optional, Tuple, TypeVar, Union
 
-from .model import PROTOCOLS, TCP, ObjectName, is_name, is_word
+from .model import LAST_PORT, PROTOCOLS, TCP, ObjectName, is_name, is_word
 
 # A JSON value as Python has it. A number that is no whole one of 64 bits is a float.
 Data = Any
@@ -153,7 +153,7 @@ whole: Shape[int] = passing(lambda value: type(value) is int, "BadField", lambda
 flag: Shape[bool] = passing(lambda value: isinstance(value, bool), "BadField", lambda value: value)
 name = passing(is_name, "BadName", text)
 word = passing(is_word, "BadField", text)
-port = passing(lambda number: 1 <= number <= 65535, "BadPort", whole)
+port = passing(lambda number: 1 <= number <= LAST_PORT, "BadPort", whole)
 # The member `protocol`, which is TCP where it is missing, and another name than those of protocols BadProtocol.
 protocol = partial(optional_or, TCP, "protocol", written(PROTOCOLS.get, "BadProtocol"))
 # A namespace: a text that is empty, which stands for `default`, or a name.

@@ -4,7 +4,7 @@ from functools import partial
 from typing import Callable, Dict, List, NamedTuple, Optional, Sequence, Tuple, Union
 
 from .addresses import Address, address_of
-from .model import PROTOCOL_NAMES
+from .model import LAST_PORT, PROTOCOL_NAMES
 
 # An end as a word names it: an address, or a name with a `/`.
 EndWord = Union[Address, str]
@@ -64,7 +64,7 @@ VALUES: Dict[str, Callable[[str], bool]] = {
     "from": is_end,
     "to": is_end,
     "protocol": PROTOCOL_NAMES.__contains__,
-    "port": partial(is_number_to, 65535),
+    "port": partial(is_number_to, LAST_PORT),
 }
 
 
