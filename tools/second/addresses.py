@@ -1,9 +1,11 @@
 """IP addresses and blocks of them: their texts and their numbers (np_addr in the text)."""
-from typing import Iterator, List, NamedTuple, Optional, Sequence, Tuple
+import re
+from typing import Iterator, NamedTuple, Optional
 
-DIGITS = {10: "0123456789", 16: "0123456789abcdefABCDEF"}
 WIDTHS = {4: 32, 6: 128}
-FAMILIES = (4, 6)
+IPV4 = re.compile(r"[0-9]{1,3}(\.[0-9]{1,3}){3}")
+GROUPS = re.compile(r"([0-9A-Fa-f]{1,4}(:[0-9A-Fa-f]{1,4})*)?")
+LENGTH = re.compile(r"0|[1-9][0-9]{0,2}")
 
 
 class Address(NamedTuple):
@@ -27,90 +29,47 @@ class Cidr(NamedTuple):
         return address.family == self.family and self.base <= address.number < self.end()
 
 
-def numeral(radix: int, most: int, text: str) -> Optional[int]:
-    """One to `most` digits of the radix, without a sign: the number that they write."""
-    if not 0 < len(text) <= most or any(c not in DIGITS[radix] for c in text):
-        return None
-    return int(text, radix)
-
-
 def ipv4_of(text: str) -> Optional[int]:
     """The number of an IPv4 address: four parts, in which leading zeros may stand."""
-    parts = [numeral(10, 3, piece) for piece in text.split(".")]
-    if len(parts) != 4:
+    if not IPV4.fullmatch(text):
         return None
-    number = 0
-    for part in parts:
-        if part is None or part > 255:
-            return None
-        number = number * 256 + part
-    return number
+    parts = [int(part) for part in text.split(".")]
+    return None if max(parts) > 255 else int.from_bytes(parts, "big")
 
 
-def last_groups(dotted: bool, text: str) -> Optional[List[int]]:
-    """The last piece between colons: a group, or, where `dotted`, an IPv4 address as two groups."""
-    group = numeral(16, 4, text)
-    if group is not None:
-        return [group]
-    number = ipv4_of(text) if dotted else None
-    return None if number is None else [number >> 16, number & 0xFFFF]
-
-
-def groups_of(dotted: bool, text: str) -> Optional[List[int]]:
-    """The groups of what stands between colons."""
-    pieces = text.split(":")
-    groups: List[int] = []
-    for piece in pieces[:-1]:
-        group = numeral(16, 4, piece)
-        if group is None:
-            return None
-        groups.append(group)
-    last = last_groups(dotted, pieces[-1])
-    return None if last is None else groups + last
-
-
-def number_of(groups: Sequence[int]) -> int:
-    """The number of eight groups, the first the highest."""
-    number = 0
-    for group in groups:
-        number = number * 65536 + group
-    return number
+def with_groups_alone(text: str) -> str:
+    """A text in which two groups stand for an IPv4 address behind its last colon."""
+    before, colon, last = text.rpartition(":")
+    number = ipv4_of(last) if colon else None
+    return text if number is None else "%s:%x:%x" % (before, number >> 16, number & 0xFFFF)
 
 
 def ipv6_of(text: str) -> Optional[int]:
     """The number of an IPv6 address, in which `::` may stand once for one zero group or more."""
-    gap = text.find("::")
-    if gap < 0:
-        whole = groups_of(True, text)
-        return number_of(whole) if whole is not None and len(whole) == 8 else None
-    before, after = text[:gap], text[gap + 2:]
-    head = groups_of(False, before) if before else []
-    tail = groups_of(True, after) if after else []
-    if head is None or tail is None or len(head) + len(tail) >= 8:
+    head, gap, tail = with_groups_alone(text).partition("::")
+    if not GROUPS.fullmatch(head) or not GROUPS.fullmatch(tail):
         return None
-    return number_of(head + [0] * (8 - len(head) - len(tail)) + tail)
+    before, after = [part.split(":") if part else [] for part in (head, tail)]
+    zeros = 8 - len(before) - len(after)
+    if zeros < 0 or (zeros > 0) != bool(gap):
+        return None
+    return int("".join(group.zfill(4) for group in before + ["0"] * zeros + after), 16)
 
 
 def address_of(text: str) -> Optional[Address]:
     """The address that a text writes, of one family or the other."""
-    four = ipv4_of(text)
-    if four is not None:
-        return Address(4, four)
-    six = ipv6_of(text)
-    return None if six is None else Address(6, six)
+    found = [Address(family, number) for family, number in ((4, ipv4_of(text)), (6, ipv6_of(text))) if number is not None]
+    return found[0] if found else None
 
 
 def cidr_of(text: str) -> Optional[Cidr]:
     """The block that a text writes, its host bits cleared."""
-    pieces = text.split("/")
-    address = address_of(pieces[0]) if len(pieces) == 2 else None
-    if address is None:
+    first, _, length = text.partition("/")
+    address = address_of(first)
+    if address is None or not LENGTH.fullmatch(length) or int(length) > WIDTHS[address.family]:
         return None
-    length = numeral(10, 3, pieces[1])
-    if length is None or (len(pieces[1]) > 1 and pieces[1][0] == "0") or length > WIDTHS[address.family]:
-        return None
-    free = WIDTHS[address.family] - length
-    return Cidr(address.family, address.number >> free << free, length)
+    free = WIDTHS[address.family] - int(length)
+    return Cidr(address.family, address.number >> free << free, int(length))
 
 
 def is_strict_part(block: Cidr, part: Cidr) -> bool:
@@ -118,25 +77,14 @@ def is_strict_part(block: Cidr, part: Cidr) -> bool:
     return block.length < part.length and block.has(Address(part.family, part.base))
 
 
-def longest_zero_run(groups: Sequence[int]) -> Tuple[int, int]:
-    """The start and the length of the longest run of zeros, and of two such runs the first."""
-    best, start = (0, 0), 0
-    for place, group in enumerate(groups):
-        if group != 0:
-            start = place + 1
-        elif place + 1 - start > best[1]:
-            best = (start, place + 1 - start)
-    return best
-
-
 def ipv6_text(number: int) -> str:
-    """The canonical text of an IPv6 address."""
-    groups = [number >> (16 * below) & 0xFFFF for below in range(7, -1, -1)]
-    texts = ["%x" % group for group in groups]
-    start, count = longest_zero_run(groups)
-    if count < 2:
-        return ":".join(texts)
-    return ":".join(texts[:start]) + "::" + ":".join(texts[start + count:])
+    """The canonical text of an IPv6 address: `::` stands for the longest run of two zero groups or more, and of several for the first."""
+    groups = ["%x" % (number >> (16 * below) & 0xFFFF) for below in range(7, -1, -1)]
+    runs = [(start, start + count) for count in range(8, 1, -1) for start in range(9 - count)]
+    for start, end in runs:
+        if set(groups[start:end]) == {"0"}:
+            return ":".join(groups[:start]) + "::" + ":".join(groups[end:])
+    return ":".join(groups)
 
 
 def address_text(address: Address) -> str:

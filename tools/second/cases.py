@@ -130,7 +130,7 @@ def names_in(texts: Tuple[bytes, ...]) -> Tuple[List[str], List[str]]:
         estate, workloads = small_estate(texts)
     except Refused:
         return ["nsone/p0[Pod]"], ["nsone/p0"]
-    return [one.name for one in workloads] or ["a/b"], ["%s/%s" % (pod.namespace, pod.name) for pod in estate.pods] or ["a/b"]
+    return [one.name for one in workloads] or ["a/b"], [pod.name.path() for pod in estate.pods] or ["a/b"]
 
 
 def end(rng: Rng, names: List[str]) -> str:

@@ -1,21 +1,27 @@
 """`exposure`: what a pod that nobody has written yet could reach, and be reached by (np_exposure)."""
+from itertools import product
+from math import prod
 from typing import Dict, List, NamedTuple, Optional, Tuple
 
-from .cluster import Cluster, all_sides
-from .model import INGRESS, NAME_KEY, Peer, Requirement, Selector, allows, label_requirement
+from .cluster import Cluster
+from .model import DIRECTIONS, INGRESS, NAME_KEY, Peer, PodEnd, Requirement, allows, label_requirement
 from .reading import Refused
-from .sides import PodEnd, Side
+from .sides import Side
 from .table import Texts, report_text
 
 MOST_PATTERNS = 65536
 OPPOSITE = {"In": "NotIn", "NotIn": "In", "Exists": "DoesNotExist", "DoesNotExist": "Exists"}
-SIDES = ("namespace", "pod")
 
 
 class Asked(NamedTuple):
-    """A requirement on the labels of a pod or of its namespace."""
+    """A requirement on the labels of a pod or of its namespace, which the side names."""
     side: str
     one: Requirement
+
+    def text(self) -> str:
+        """The side, the key, and what is asked."""
+        values = " (%s)" % ",".join(self.one.values) if self.one.op in ("In", "NotIn") else ""
+        return "%s %s %s%s" % (self.side, self.one.key, self.one.op, values)
 
 
 Row = Tuple[Tuple[Asked, ...], int]
@@ -25,25 +31,18 @@ Choices = Dict[Tuple[str, str], Tuple[Optional[str], ...]]
 
 # ---- what is mentioned
 
-def of_selector(side: str, selector: Optional[Selector]) -> List[Asked]:
-    """The requirements of a selector, in order."""
-    return [Asked(side, one) for one in selector or ()]
-
-
 def of_peer(namespace: str, peer: Peer) -> List[Asked]:
     """What a peer mentions: a pod selector alone stands for pods of the policy's namespace, and blocks mention nothing."""
-    if peer.cidrs is not None:
+    if peer.cidrs:
         return []
-    if peer.namespaces is None:
-        return [Asked("namespace", label_requirement(NAME_KEY, namespace))] + of_selector("pod", peer.pods)
-    return of_selector("namespace", peer.namespaces) + of_selector("pod", peer.pods)
+    of_namespaces = (label_requirement(NAME_KEY, namespace),) if peer.namespaces is None else peer.namespaces
+    return [Asked("namespace", one) for one in of_namespaces] + [Asked("pod", one) for one in peer.pods]
 
 
 def mentions(side: Side) -> List[Asked]:
     """What the rules mention that speak of a pod: admin policies by priority, NetworkPolicies by name, the baseline; each once."""
     rules = side.admin + side.net + side.base
-    found = [asked for _, rule, namespace in rules for peer in rule.peers for asked in of_peer(namespace, peer)]
-    return list(dict.fromkeys(found))
+    return list(dict.fromkeys(asked for one in rules for peer in one.rule.peers for asked in of_peer(one.namespace, peer)))
 
 
 def values_at(asked: List[Asked]) -> Dict[Tuple[str, str], List[str]]:
@@ -54,22 +53,14 @@ def values_at(asked: List[Asked]) -> Dict[Tuple[str, str], List[str]]:
     return {place: sorted(found[place]) for place in sorted(found)}
 
 
-def weight(asked: List[Asked]) -> int:
-    """How many patterns of labels the requirements may tell apart."""
-    product = 1
-    for values in values_at(asked).values():
-        product *= len(values) + 2
-    return product
-
-
 # ---- what is possible
 
 def choices_of(asked: List[Asked]) -> Choices:
     """At each mentioned key its values, another one, and that there is none, but that a namespace always has a name."""
     made: Choices = {}
     for place, values in values_at(asked).items():
-        other: List[Optional[str]] = ["".join(values) + "a"]
-        made[place] = tuple(values + other + ([] if place == ("namespace", NAME_KEY) else [None]))  # type: ignore[operator]
+        found: List[Optional[str]] = [*values, "".join(values) + "a"]
+        made[place] = tuple(found if place == ("namespace", NAME_KEY) else found + [None])
     return made
 
 
@@ -96,60 +87,40 @@ class Exposer:
         self.cluster = cluster
         self.name = cluster.workloads[workload].name
         self.direction = direction
-        self.near = cluster.source(workload)
+        self.near = cluster.pod(workload)
         self.asked = mentions(cluster.rules.side(direction, self.near))
 
     def must_be_few(self) -> None:
-        """There are not too many patterns of labels."""
-        found = weight(self.asked)
+        """There are not too many patterns of labels that the requirements may tell apart."""
+        found = prod(len(values) + 2 for values in values_at(self.asked).values())
         if found > MOST_PATTERNS:
             raise Refused("TooManyPatterns %s %s: %d" % (self.name, self.direction, min(found, 2 ** 64 - 1)))
-
-    def exposes(self, stranger: PodEnd) -> int:
-        """The spots that the side allows with a stranger as its far end."""
-        parts = self.cluster.rules.parts(self.direction, self.near, stranger, 4)
-        return sum(spots for decider, spots in parts if decider.allow)
 
     def rows_left(self, place: int, choices: Choices) -> List[Row]:
         """The rows of the requirements from a place on, where some choices are left. Where only one answer is possible, it is not asked."""
         if place == len(self.asked):
-            return [((), self.exposes(first_stranger(choices)))]
+            return [((), self.cluster.rules.allowed_at(self.direction, self.near, first_stranger(choices), 4))]
         asked = self.asked[place]
         met, unmet = assumed(choices, asked, asked.one.op), assumed(choices, asked, OPPOSITE[asked.one.op])
-        if met is None or unmet is None:
-            left = unmet if met is None else met
-            assert left is not None
-            return self.rows_left(place + 1, left)
-        where, otherwise = self.rows_left(place + 1, met), self.rows_left(place + 1, unmet)
-        return where if where == otherwise else [((asked,) + row[0], row[1]) for row in where] + otherwise
+        rows = [self.rows_left(place + 1, left) for left in (met, unmet) if left is not None]
+        if len(rows) == 1 or rows[0] == rows[1]:
+            return rows[0]
+        return [((asked,) + requirements, spots) for requirements, spots in rows[0]] + rows[1]
 
     def texts(self) -> List[Texts]:
         """The texts of the rows."""
-        made = []
+        made: List[Texts] = []
         for requirements, spots in self.rows_left(0, choices_of(self.asked)):
-            peer = peer_text(requirements)
+            peer = "{%s}" % (" and ".join(asked.text() for asked in requirements) or "any pod")
             ends = (peer, self.name) if self.direction == INGRESS else (self.name, peer)
             made.append((*ends, self.cluster.space.text(spots)))
         return made
 
 
-# ---- texts
-
-def requirement_text(asked: Asked) -> str:
-    """The side, the key, and what is asked."""
-    values = " (%s)" % ",".join(asked.one.values) if asked.one.op in ("In", "NotIn") else ""
-    return "%s %s %s%s" % (asked.side, asked.one.key, asked.one.op, values)
-
-
-def peer_text(requirements: Tuple[Asked, ...]) -> str:
-    """The requirements, joined by ` and `."""
-    return "{%s}" % (" and ".join(requirement_text(asked) for asked in requirements) or "any pod")
-
-
 def exposure_reply(cluster: Cluster, options: Dict[str, str]) -> str:
     """The exposure of the workloads that are asked for, or why it is not told."""
-    numbers = [cluster.number_named(options["workload"])] if "workload" in options else range(len(cluster.workloads))
-    sides = [Exposer(cluster, *side) for side in all_sides(numbers)]
+    numbers = [cluster.number_named(options["workload"])] if "workload" in options else cluster.numbers
+    sides = [Exposer(cluster, *side) for side in product(numbers, DIRECTIONS)]
     for side in sides:
         side.must_be_few()
     return report_text(options["format"], [row for side in sides for row in side.texts()])

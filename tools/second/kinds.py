@@ -126,6 +126,8 @@ def json_texts(rng: Rng, number: int) -> List[Case]:
     """The text of a random list with a few bytes put in, left out or doubled."""
     items = clusters.random_items(rng)[:4]
     text = text_of(list_of(items), 2 if rng.random() < 0.1 else None)
+    if number % 20 == 7:  # half of a surrogate pair, in a member that another one of its name replaces
+        text = b'{"kind":"\\ud800",' + text[1:]
     for _ in range(rng.choice([1, 1, 2])):
         place, length = rng.randrange(len(text) + 1), rng.choice([0, 0, 1, 1, 2, 30])
         text = text[:place] + rng.choice([rng.choice(BYTES), b"", text[place:place + length] * 2]) + text[place + length:]

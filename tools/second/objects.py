@@ -4,24 +4,16 @@ from typing import Dict, Optional, Tuple, Union
 
 from . import values
 from .addresses import Address, address_of
-from .model import (TCP, Backend, ControllerItem, IngressItem, Labels, NamedPort, NamespaceItem, Owner, PodItem, PortName, Selector,
-                    ServiceItem, ServicePort, Template, label_requirement)
-from .values import Data, listed, member, optional, optional_or, refuse_if, required
+from .model import (Backend, Ingress, Labels, NamedPort, Namespace, ObjectName, PodSource, Selector, Service, ServicePort,
+                    label_requirement)
+from .values import Data, Shape, listed, member, one_of, optional, optional_or, refuse_if, required
 
-CONTROLLERS = ("Deployment", "ReplicaSet", "StatefulSet", "DaemonSet", "ReplicationController", "Job", "CronJob")
-KINDS: Dict[str, Tuple[str, ...]] = {
-    "v1": ("Pod", "Namespace", "Service", "ReplicationController"),
-    "apps/v1": ("Deployment", "ReplicaSet", "StatefulSet", "DaemonSet"),
-    "batch/v1": ("Job", "CronJob"),
-    "networking.k8s.io/v1": ("Ingress",),
-}
-
-
-class Other:
-    """An object of another kind or version, of which nothing is read."""
-
-
-Object = Union[PodItem, NamespaceItem, ControllerItem, ServiceItem, IngressItem, Other]
+# The kinds of controllers, with their API versions.
+CONTROLLERS = {"Deployment": "apps/v1", "ReplicaSet": "apps/v1", "StatefulSet": "apps/v1", "DaemonSet": "apps/v1",
+               "ReplicationController": "v1", "Job": "batch/v1", "CronJob": "batch/v1"}
+# Labels of pods, their named ports, and whether they are on the network of their node.
+Template = Tuple[Labels, Tuple[NamedPort, ...], bool]
+NO_TEMPLATE: Template = ({}, (), False)
 
 
 # ---- pods
@@ -34,7 +26,7 @@ def port_name(value: Data) -> Optional[str]:
 def container_port(value: Data) -> Optional[NamedPort]:
     """A container port, where it has a name."""
     called = optional("name", port_name, value)
-    proto = optional_or(TCP, "protocol", values.protocol_name, value)
+    proto = values.protocol(value)
     number = required("containerPort", values.port, value)
     return None if called is None else NamedPort(called, proto, number)
 
@@ -60,77 +52,69 @@ def pod_status(value: Data) -> Tuple[bool, Tuple[Address, ...]]:
     return phase in ("Succeeded", "Failed"), tuple(dict.fromkeys(found))
 
 
-def owner_reference(value: Data) -> Tuple[Owner, bool]:
-    """An owner reference, and whether that owner controls the object."""
-    owner = Owner(required("kind", values.name, value), required("name", values.name, value))
+def owner_reference(namespace: str, value: Data) -> Tuple[ObjectName, bool]:
+    """An owner reference of an object of a namespace, and whether that owner controls it."""
+    owner = ObjectName(required("kind", values.name, value), namespace, required("name", values.name, value))
     return owner, optional_or(False, "controller", values.flag, value)
 
 
-def owner_in(of_controller: bool, value: Data) -> Optional[Owner]:
+def owner_in(own: ObjectName, value: Data) -> Optional[ObjectName]:
     """The owner of an object: the first that controls it and counts. The node of a pod does not, and of a controller only others do."""
-    for owner, controls in listed("ownerReferences", owner_reference, value):
-        if controls and (owner.kind in CONTROLLERS if of_controller else owner.kind != "Node"):
+    for owner, controls in listed("ownerReferences", partial(owner_reference, own.namespace), value):
+        if controls and (owner.kind != "Node" if own.kind == "Pod" else owner.kind in CONTROLLERS):
             return owner
     return None
 
 
-def pod_metadata(value: Data) -> Tuple[str, str, Labels, Optional[Owner]]:
-    """The namespace, the name, the labels and the owner of a pod."""
-    own = values.namespaced_name(value)
-    return (*own, optional_or({}, "labels", values.labels, value), owner_in(False, value))
+def owned_metadata(kind: str, value: Data) -> Tuple[ObjectName, Labels, Optional[ObjectName]]:
+    """The name, the labels and the owner of a pod or a controller, of which the labels are not read."""
+    own = values.namespaced_name(kind, value)
+    labels = optional_or({}, "labels", values.labels, value) if kind == "Pod" else {}
+    return own, labels, owner_in(own, value)
 
 
-def pod(value: Data) -> PodItem:
+def pod(value: Data) -> PodSource:
     """A pod."""
-    metadata, spec = required("metadata", pod_metadata, value), required("spec", pod_spec, value)
-    return PodItem(*metadata, *spec, *optional_or((False, ()), "status", pod_status, value))
+    own, labels, owner = required("metadata", partial(owned_metadata, "Pod"), value)
+    spec = required("spec", pod_spec, value)
+    return PodSource(own, owner, labels, *spec, True, *optional_or((False, ()), "status", pod_status, value))
 
 
-# ---- namespaces and controllers
-
-def namespace_metadata(value: Data) -> NamespaceItem:
-    """The metadata of a namespace, which is in no namespace itself."""
-    return NamespaceItem(required("name", values.name, value), optional_or({}, "labels", values.labels, value))
-
+# ---- controllers and namespaces
 
 def template(value: Data) -> Template:
     """The template of a pod."""
     labels = optional_or({}, "metadata", partial(optional_or, {}, "labels", values.labels), value)
-    return Template(labels, *required("spec", pod_spec, value))
+    return (labels, *required("spec", pod_spec, value))
 
 
-Spec = Tuple[bool, Optional[Template]]
-NO_SPEC: Spec = (False, None)
+def controller_spec(kind: str, value: Data) -> Optional[Template]:
+    """The template of the pods that a controller makes, unless it is told that none are wanted."""
+    if kind == "CronJob":
+        return optional("jobTemplate", partial(optional, "spec", partial(controller_spec, "Job")), value)
+    replicas = None if kind in ("DaemonSet", "Job") else optional("replicas", values.whole, value)
+    found = optional("template", template, value)
+    return None if replicas == 0 else found
 
 
-def spec_of(is_replicated: bool, value: Data) -> Spec:
-    """Whether a controller that is told how many pods are wanted wants none, and the template."""
-    wanted = optional("replicas", values.whole, value) if is_replicated else None
-    return wanted == 0, optional("template", template, value)
-
-
-def controller_metadata(value: Data) -> Tuple[str, str, Optional[Owner]]:
-    """The namespace, the name and the owner of a controller."""
-    return (*values.namespaced_name(value), owner_in(True, value))
-
-
-# The specs of a controller of which the template alone is read, and of one of jobs.
-template_spec = partial(spec_of, False)
-job_template = partial(optional_or, NO_SPEC, "spec", template_spec)
-SPECS = {"DaemonSet": template_spec, "Job": template_spec, "CronJob": partial(optional_or, NO_SPEC, "jobTemplate", job_template)}
-
-
-def controller(kind: str, value: Data) -> ControllerItem:
+def controller(kind: str, value: Data) -> PodSource:
     """A controller of a kind."""
-    metadata = required("metadata", controller_metadata, value)
-    return ControllerItem(kind, *metadata, *optional_or(NO_SPEC, "spec", SPECS.get(kind, partial(spec_of, True)), value))
+    own, _, owner = required("metadata", partial(owned_metadata, kind), value)
+    found = optional("spec", partial(controller_spec, kind), value)
+    return PodSource(own, owner, *(found or NO_TEMPLATE), found is not None, False, ())
+
+
+def namespace_metadata(value: Data) -> Namespace:
+    """The metadata of a namespace, which is in no namespace itself."""
+    own = ObjectName("Namespace", "", required("name", values.name, value))
+    return Namespace(own, optional_or({}, "labels", values.labels, value))
 
 
 # ---- services
 
-def target_port(value: Data) -> Optional[PortName]:
+def target_port(value: Data) -> Union[int, str, None]:
     """A port of the pods behind a service; the number 0 and the empty text count as missing."""
-    if values.is_whole(value):
+    if type(value) is int:
         return None if value == 0 else values.port(value)
     return port_name(value)
 
@@ -138,38 +122,34 @@ def target_port(value: Data) -> Optional[PortName]:
 def service_port(value: Data) -> ServicePort:
     """A port of a service; it leads to the same port of the pods unless another is named."""
     called = optional("name", port_name, value)
-    proto = optional_or(TCP, "protocol", values.protocol_name, value)
+    proto = values.protocol(value)
     number = required("port", values.port, value)
     return ServicePort(called, proto, number, optional("targetPort", target_port, value) or number)
 
 
-def service_spec(value: Data) -> Tuple[Optional[Selector], bool, bool, Tuple[ServicePort, ...]]:
-    """The selector of a service, if it names some labels, whether it is headless, whether it is external, and its ports."""
+def service_spec(value: Data) -> Tuple[Selector, bool, bool, Tuple[ServicePort, ...]]:
+    """The selector of a service, whether it is headless, whether it is external, and its ports."""
     kind = optional("type", values.text, value)
     cluster_ip = optional("clusterIP", values.text, value)
     labels = optional_or({}, "selector", values.labels, value)
-    selector = tuple(label_requirement(*label) for label in labels.items()) or None
+    selector = tuple(label_requirement(*label) for label in labels.items())
     return selector, cluster_ip == "None", kind == "ExternalName", listed("ports", service_port, value)
 
 
-def service(value: Data) -> ServiceItem:
+def service(value: Data) -> Service:
     """A service."""
-    own = required("metadata", values.namespaced_name, value)
-    return ServiceItem(*own, *required("spec", service_spec, value))
+    own = required("metadata", partial(values.namespaced_name, "Service"), value)
+    return Service(own, *required("spec", service_spec, value))
 
 
 # ---- ingresses
 
-def is_there(value: Data, none: PortName) -> bool:
-    """Whether there is a number or a name; 0 and the empty text count as missing, and what has another type does not."""
-    return value is not None and not (type(value) is type(none) and value == none)
-
-
-def backend_port(value: Data) -> PortName:
-    """A port of a service: exactly one of its number and its name."""
-    numbered = is_there(member("number", value), 0)
-    refuse_if(numbered == is_there(member("name", value), ""), "BadField")
-    return required("number", values.port, value) if numbered else required("name", values.text, value)
+def backend_port(value: Data) -> Union[int, str]:
+    """A port of a service: exactly one of its number and its name, of which 0 and the empty text count as missing."""
+    number, called = member("number", value), member("name", value)
+    is_numbered = number is not None and not (type(number) is int and number == 0)
+    refuse_if(is_numbered == (called is not None and called != ""), "BadField")
+    return required("number", values.port, value) if is_numbered else required("name", values.text, value)
 
 
 def backend_service(value: Data) -> Backend:
@@ -177,12 +157,8 @@ def backend_service(value: Data) -> Backend:
     return Backend(required("name", values.text, value), required("port", backend_port, value))
 
 
-def backend(value: Data) -> Optional[Backend]:
-    """A backend: exactly one of a service and a resource."""
-    refuse_if(not values.has_one_of(("service", "resource"), value), "BadField")
-    return optional("service", backend_service, value)
-
-
+BACKENDS: Dict[str, Shape[Optional[Backend]]] = {"service": backend_service, "resource": lambda value: None}
+backend: Shape[Optional[Backend]] = partial(one_of, "BadField", BACKENDS)
 # A rule of an ingress: the backends of its paths.
 rule = partial(optional_or, (), "http", partial(listed, "paths", partial(required, "backend", backend)))
 
@@ -194,20 +170,20 @@ def ingress_spec(value: Data) -> Tuple[Optional[Backend], ...]:
     return (default or ()) + tuple(one for backends in rules for one in backends)
 
 
-def ingress(value: Data) -> IngressItem:
+def ingress(value: Data) -> Ingress:
     """An ingress."""
-    own = required("metadata", values.namespaced_name, value)
-    return IngressItem(*own, optional_or((), "spec", ingress_spec, value))
+    own = required("metadata", partial(values.namespaced_name, "Ingress"), value)
+    return Ingress(own, optional_or((), "spec", ingress_spec, value))
 
 
 # ---- any of them
 
-def object_of(version: str, kind: str, value: Data) -> Object:
-    """The object of an API version and a kind. A kind in another version is none of those that are read."""
-    if kind not in KINDS.get(version, ()):
-        return Other()
-    if kind in CONTROLLERS:
-        return controller(kind, value)
-    if kind == "Namespace":
-        return required("metadata", namespace_metadata, value)
-    return {"Pod": pod, "Service": service, "Ingress": ingress}[kind](value)
+Object = Union[PodSource, Namespace, Service, Ingress]
+# How the objects of an API version and a kind are read.
+OBJECTS: Dict[Tuple[str, str], Shape[Object]] = {
+    ("v1", "Pod"): pod,
+    ("v1", "Namespace"): partial(required, "metadata", namespace_metadata),
+    ("v1", "Service"): service,
+    ("networking.k8s.io/v1", "Ingress"): ingress,
+    **{(version, kind): partial(controller, kind) for kind, version in CONTROLLERS.items()},
+}

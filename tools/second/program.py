@@ -6,21 +6,19 @@ is guessed; DIARY.md says where."""
 import os
 import sys
 from functools import lru_cache
-from typing import Callable, List, NamedTuple, Sequence, Tuple
+from typing import Callable, Dict, List, NamedTuple, Sequence, Tuple
 
 if __package__ in (None, ""):
     sys.path.insert(0, os.path.dirname(os.path.dirname(os.path.abspath(__file__))))
     __package__ = "second"
 
-from second.addresses import Cidr
-from second.check import check_reply, spans_in, statements_of
-from second.cluster import Cluster, Workload, small_workloads
+from second.check import check_reply
+from second.cluster import Cluster, Workload, workloads_of
 from second.explain import evaluate_reply, explain_reply, unused_reply
 from second.exposure import exposure_reply
 from second.flatten import flatten_reply
-from second.model import PROTOCOLS, Estate
+from second.model import PROTOCOLS, Estate, Span
 from second.reading import Refused, estate_of
-from second.spots import Span
 from second.table import list_reply, route_notes, sample_reply, sample_text
 from second.values import SURROGATE
 from second.words import USAGE, Job, job_of
@@ -39,24 +37,16 @@ class Answer(NamedTuple):
     err: bytes
 
 
-class TooLarge(Exception):
-    """The inputs have more bytes than are read."""
-
-
-class CannotRead(Exception):
-    """The input of this name could not be read."""
-
-
 def texts_of(job: Job, source: Source) -> List[bytes]:
-    """The bytes of the inputs of a job, each read once, in their order."""
+    """The bytes of the inputs of a job, each read once, in their order; OSError with the name of one that cannot be read."""
     texts: List[bytes] = []
     for name in job.files if job.command != "sample" else ():
         try:
             texts.append(source(name))
         except OSError:
-            raise CannotRead(name) from None
+            raise OSError(name) from None
         if sum(len(data) for data in texts) > SIZE_LIMIT:
-            raise TooLarge()
+            raise Refused("TooLarge")
     return texts
 
 
@@ -64,47 +54,32 @@ def texts_of(job: Job, source: Source) -> List[bytes]:
 def small_estate(texts: Tuple[bytes, ...]) -> Tuple[Estate, List[Workload]]:
     """What all inputs say together, and its workloads."""
     estate = estate_of(texts)
-    return estate, small_workloads(estate)
+    return estate, workloads_of(estate)
 
 
-def check_job(estate: Estate, workloads: List[Workload], data: bytes) -> Tuple[str, bool]:
-    """What `check` finds of a statement file, and whether all its statements hold."""
-    statements = statements_of(data)
-    blocks: List[Cidr] = [form.block for one in statements for form in (one.source, one.destination) if form.block is not None]
-    return check_reply(Cluster(estate, workloads, spans_in(statements), blocks), statements)
-
-
-def evaluate_job(estate: Estate, workloads: List[Workload], job: Job) -> str:
-    """What `evaluate` says of its packet."""
-    proto, port = PROTOCOLS[job.options["protocol"]], int(job.options["port"])
-    return evaluate_reply(Cluster(estate, workloads, [Span(proto, port, port)]), job.end("from"), job.end("to"), proto, port)
+REPLIES: Dict[str, Callable[[Cluster, Job], str]] = {
+    "list": lambda cluster, job: list_reply(cluster, job.options),
+    "explain": lambda cluster, job: explain_reply(cluster, job.ends()),
+    "exposure": lambda cluster, job: exposure_reply(cluster, job.options),
+    "unused": lambda cluster, job: unused_reply(cluster),
+    "flatten": lambda cluster, job: flatten_reply(cluster),
+    "sample": lambda cluster, job: sample_reply(cluster),
+}
 
 
 def reply(job: Job, texts: Sequence[bytes], estate: Estate, workloads: List[Workload]) -> Tuple[str, bool]:
     """What a job prints, and whether all holds that it was to check."""
     if job.command == "check":
-        return check_job(estate, workloads, texts[0])
+        return check_reply(estate, workloads, texts[0])
     if job.command == "evaluate":
-        return evaluate_job(estate, workloads, job), True
-    cluster = Cluster(estate, workloads)
-    replies: dict = {
-        "list": lambda: list_reply(cluster, job.options),
-        "explain": lambda: explain_reply(cluster, job.end("from"), job.end("to")),
-        "exposure": lambda: exposure_reply(cluster, job.options),
-        "unused": lambda: unused_reply(cluster),
-        "flatten": lambda: flatten_reply(cluster),
-        "sample": lambda: sample_reply(cluster),
-    }
-    return replies[job.command](), True
+        port = int(job.options["port"])
+        return evaluate_reply(estate, workloads, job.ends(), Span(PROTOCOLS[job.options["protocol"]], port, port)), True
+    return REPLIES[job.command](Cluster(estate, workloads), job), True
 
 
 def notes_text(job: Job, estate: Estate) -> str:
     """What is said of a whole report: what was left out of it, and of `list` which backends lead nowhere; of `sample` nothing."""
-    if job.command == "sample":
-        return ""
-    said = ("host network pods left out", "finished pods left out", "objects of other kinds skipped",
-            "pods without an address, matched by no networks peer")
-    lines = "".join("note: %s: %d\n" % (what, count) for what, count in zip(said, estate.notes) if count)
+    lines = "".join("note: %s: %d\n" % note for note in estate.notes.items() if note[1] and job.command != "sample")
     return lines + (route_notes(estate) if job.command == "list" else "")
 
 
@@ -128,9 +103,7 @@ def run(words: Sequence[str], source: Source) -> Answer:
         return answer(job, source)
     except Refused as refused:
         return Answer(REFUSED, b"", ("error: %s\n" % refused).encode())
-    except TooLarge:
-        return Answer(REFUSED, b"", b"error: TooLarge\n")
-    except CannotRead as failed:
+    except OSError as failed:
         return Answer(DEVICE, b"", ("error: cannot read %s\n" % failed).encode())
 
 

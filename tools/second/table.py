@@ -1,26 +1,19 @@
 """`list`, the forms of reports, the routes of ingresses, and `sample` (np_table, np_routes, np_report, np_sample)."""
+import csv
+import io
 import json
-from typing import Dict, Iterator, List, NamedTuple, Optional, Sequence, Tuple
+from itertools import product
+from typing import Dict, Iterator, List, NamedTuple, Optional, Sequence, Set, Tuple, Union
 
 from .addresses import Address, address_text, cidr_text, range_prefixes
-from .cluster import Cluster, all_sides, mark
-from .model import INGRESS, NAME_KEY, TCP, Backend, Estate, PortName, ServiceItem, ServicePort, meets
-from .sides import PodEnd
+from .cluster import Cluster, told_apart
+from .model import DIRECTIONS, INGRESS, NAME_KEY, TCP, Backend, Estate, ObjectName, PodEnd, Service, ServicePort, meets
 
 Texts = Tuple[str, str, str]
+HEAD: Texts = ("source", "destination", "connections")
 
 
 # ---- forms of reports
-
-def csv_field(field: str) -> str:
-    """A field of comma-separated values, in quotes where it needs them."""
-    return '"' + field.replace('"', '""') + '"' if any(c in field for c in ',"\r\n') else field
-
-
-def csv_row(fields: Sequence[str]) -> str:
-    """A row of comma-separated values."""
-    return ",".join(csv_field(field) for field in fields) + "\n"
-
 
 def compact(value: object) -> str:
     """The compact text of a JSON value, whose members stand in the order of their names."""
@@ -30,140 +23,111 @@ def compact(value: object) -> str:
 def report_text(form: str, rows: Sequence[Texts]) -> str:
     """The text of a whole report, for the texts of its rows."""
     if form == "csv":
-        return "".join(csv_row(row) for row in [("source", "destination", "connections"), *rows])
+        text = io.StringIO()
+        csv.writer(text, lineterminator="\n").writerows([HEAD, *rows])
+        return text.getvalue()
     if form == "json":
-        objects = [compact({"source": row[0], "destination": row[1], "connections": row[2]}) for row in rows]
-        return "[" + ",\n".join(objects) + "]\n"
+        return "[" + ",\n".join(compact(dict(zip(HEAD, row))) for row in rows) + "]\n"
     return "".join("%s => %s : %s\n" % row for row in rows)
 
 
 # ---- rows
 
-class Row(NamedTuple):
-    """A row: its ends, each a workload's number, a range of addresses or, where there is None, the controller of ingresses."""
-    source: object
-    destination: object
-    family: Optional[int]
-    spots: int
-
-
+# Addresses of a family from the first to that of the last number.
 Range = Tuple[Address, int]
+# An end of a row: a workload's number, a range of addresses or, where there is None, the controller of ingresses.
+RowEnd = Union[int, Range, None]
+
+
+class Row(NamedTuple):
+    """A row: its ends, its mark where it is of one family of two, and what passes."""
+    source: RowEnd
+    destination: RowEnd
+    mark: str
+    spots: int
 
 
 def pair_rows(cluster: Cluster, source: int, destination: int) -> List[Row]:
     """The rows of a pair of workloads: one without a mark where the families agree, else one for each in which something passes."""
-    sets = [cluster.pair_allows(source, destination, family) for family in cluster.families]
-    rows = [Row(source, destination, family, spots) for family, spots in zip(cluster.families, sets)]
-    if len(set(sets)) == 1:
-        rows = [rows[0]._replace(family=None)]
-    return [row for row in rows if row.spots]
+    sets = [cluster.allows(source, destination, family) for family in cluster.families]
+    return [Row(source, destination, mark, spots) for mark, spots in told_apart(cluster.families, sets) if spots]
 
 
 def address_rows(cluster: Cluster, workload: int, direction: str) -> List[Row]:
     """The rows of a workload and all addresses in a direction, those at which nothing passes among them."""
     rows = []
     for address, last, spots in cluster.address_rows(workload, direction):
-        ends = ((address, last), workload) if direction == INGRESS else (workload, (address, last))
-        rows.append(Row(*ends, None, spots))
+        far = address, last
+        rows.append(Row(far, workload, "", spots) if direction == INGRESS else Row(workload, far, "", spots))
     return rows
 
 
 def all_rows(cluster: Cluster, controller: Optional[int]) -> Iterator[Row]:
     """The rows of pairs, then those of addresses, and then those of ingresses."""
-    numbers = range(len(cluster.workloads))
-    for source in numbers:
-        for destination in numbers:
-            yield from pair_rows(cluster, source, destination)
-    for number, direction in all_sides(numbers):
+    for source, destination in product(cluster.numbers, repeat=2):
+        yield from pair_rows(cluster, source, destination)
+    for number, direction in product(cluster.numbers, DIRECTIONS):
         yield from address_rows(cluster, number, direction)
-    routes = Routes(cluster, controller)
-    for number in numbers:
-        spots = routes.reached(number)
-        if spots:
-            yield Row(None, number, None, spots)
+    rows = (Row(None, number, "", routed_spots(cluster, controller, number)) for number in cluster.numbers)
+    yield from (row for row in rows if row.spots)
 
 
 # ---- ingresses
 
-def service_named(estate: Estate, namespace: str, name: str) -> Optional[ServiceItem]:
-    """The listed service of a namespace and a name."""
-    return next((one for one in estate.services if (one.namespace, one.name) == (namespace, name)), None)
+# The controller of ingresses, where it is not named: a pod of which nothing is known.
+UNKNOWN = PodEnd("", {NAME_KEY: ""}, {}, (), ())
 
 
-def is_backend_port(named: PortName, port: ServicePort) -> bool:
-    """Whether a port of a service is a TCP port of a number or name."""
-    return port.proto == TCP and named == (port.port if isinstance(named, int) else port.name)
+def is_backend_port(backend: Backend, port: ServicePort) -> bool:
+    """Whether a port of a service is a TCP port of a backend's number or name."""
+    return port.proto == TCP and backend.port == (port.port if isinstance(backend.port, int) else port.name)
 
 
-class Routes:
-    """Which ports of workloads are reached through ingresses, where a workload or an unknown controller sends what comes."""
-
-    def __init__(self, cluster: Cluster, controller: Optional[int]) -> None:
-        self.cluster = cluster
-        self.controller = controller
-        self.unknown = PodEnd("", {NAME_KEY: ""}, {}, (), ())
-
-    def target_spots(self, service: ServiceItem, port: ServicePort, p: PodEnd) -> int:
-        """The ports of a pod that a port of a service leads to: its target, and where the service is headless the port itself."""
-        space = self.cluster.space
-        if service.headless:
-            return space.span(TCP, port.port, port.port)
-        if isinstance(port.target, int):
-            return space.span(TCP, port.target, port.target)
-        spots = 0
-        for own in p.ports:
-            spots |= space.span(TCP, own.number, own.number) if own.proto == TCP and own.name == port.target else 0
-        return spots
-
-    def backend_spots(self, backend: Backend, p: PodEnd) -> int:
-        """The ports of a pod that a backend of an ingress of its namespace leads to."""
-        service = service_named(self.cluster.estate, p.namespace, backend.service)
-        if service is None or service.external or service.selector is None:
-            return 0
-        spots = 0
-        for port in service.ports if meets(service.selector, p.labels) else ():
-            spots |= self.target_spots(service, port, p) if is_backend_port(backend.port, port) else 0
-        return spots
-
-    def routed(self, p: PodEnd) -> int:
-        """The ports of a pod that some ingress of its namespace leads to."""
-        spots = 0
-        own = [ingress for _, ingress in self.cluster.estate.ingresses if ingress.namespace == p.namespace]
-        for backend in [backend for ingress in own for backend in ingress.backends if backend is not None]:
-            spots |= self.backend_spots(backend, p)
-        return spots
-
-    def may_send(self, receiver: PodEnd) -> int:
-        """The spots at which the controller may send to a pod: in some family of the list, or as a pod of which nothing is known."""
-        rules = self.cluster.rules
-        if self.controller is None:
-            return rules.side_allows(INGRESS, receiver, self.unknown, 4)
-        spots = 0
-        for family in self.cluster.families:
-            spots |= rules.allows(self.cluster.source(self.controller), receiver, family)
-        return spots
-
-    def reached(self, workload: int) -> int:
-        """The TCP ports of a workload that are reached through ingresses; of the controller itself none is."""
-        if workload == self.controller:
-            return 0
-        receiver = self.cluster.source(workload)
-        spots = self.routed(receiver)
-        return spots & self.may_send(receiver) if spots else 0
-
-
-def flaw_of(estate: Estate, namespace: str, backend: Optional[Backend]) -> Optional[str]:
-    """The first flaw of a backend of an ingress of a namespace."""
+def service_behind(estate: Estate, namespace: str, backend: Optional[Backend]) -> Union[Service, str]:
+    """The service that a backend of an ingress of a namespace leads to, with the ports that it names, or why there is none."""
     if backend is None:
         return "Resource"
-    service = service_named(estate, namespace, backend.service)
+    service = estate.services.get(ObjectName("Service", namespace, backend.service))
     if service is None:
         return "NoService"
-    if service.external or service.selector is None:
+    if service.external or not service.selector:
         return "NoSelector"
-    if not any(is_backend_port(backend.port, port) for port in service.ports):
-        return "NoPort"
-    return "Headless" if service.headless else None
+    ports = tuple(port for port in service.ports if is_backend_port(backend, port))
+    return service._replace(ports=ports) if ports else "NoPort"
+
+
+def target_ports(service: Service, p: PodEnd) -> List[int]:
+    """The ports of a pod that the ports of a service lead to: their targets, or where it is headless these ports themselves."""
+    targets = [port.port if service.headless else port.target for port in service.ports]
+    named = [own.number for own in p.ports if own.proto == TCP and own.name in targets]
+    return [target for target in targets if isinstance(target, int)] + named
+
+
+def routed_ports(estate: Estate, p: PodEnd) -> Set[int]:
+    """The TCP ports of a pod that some ingress of its namespace leads to."""
+    backends = [backend for _, ingress in estate.ingresses if ingress.name.namespace == p.namespace for backend in ingress.backends]
+    services = [service_behind(estate, p.namespace, backend) for backend in backends]
+    return {number for service in services if isinstance(service, Service) and meets(service.selector, p.labels)
+            for number in target_ports(service, p)}
+
+
+def controller_sends(cluster: Cluster, controller: Optional[int], receiver: PodEnd) -> int:
+    """The spots at which the controller may send to a pod, in some family of the list."""
+    if controller is None:
+        return cluster.rules.side_allows(INGRESS, receiver, UNKNOWN, 4)
+    spots = 0
+    for family in cluster.families:
+        spots |= cluster.rules.allows(cluster.pod(controller), receiver, family)
+    return spots
+
+
+def routed_spots(cluster: Cluster, controller: Optional[int], workload: int) -> int:
+    """The TCP ports of a workload that are reached through ingresses; of the controller itself none is."""
+    if workload == controller:
+        return 0
+    receiver = cluster.pod(workload)
+    spots = sum(cluster.space.span(TCP, number, number) for number in routed_ports(cluster.estate, receiver))
+    return spots & controller_sends(cluster, controller, receiver) if spots else 0
 
 
 def route_notes(estate: Estate) -> str:
@@ -171,47 +135,42 @@ def route_notes(estate: Estate) -> str:
     lines = []
     for item, ingress in estate.ingresses:
         for number, backend in enumerate(ingress.backends, 1):
-            flaw = flaw_of(estate, ingress.namespace, backend)
-            if flaw is not None:
-                lines.append("note: item %d: backend %d: %s\n" % (item, number, flaw))
+            found = service_behind(estate, ingress.name.namespace, backend)
+            if isinstance(found, str) or found.headless:
+                lines.append("note: item %d: backend %d: %s\n" % (item, number, found if isinstance(found, str) else "Headless"))
     return "".join(lines)
 
 
 # ---- `list`
 
-def range_text(report: str, found: Range) -> str:
+def range_text(report: str, first: Address, last: int) -> str:
     """A range of addresses: by its ends in report 1, and in report 2 by its blocks, joined by commas."""
-    first, last = found
     if report == "2":
         return ",".join(cidr_text(block) for block in range_prefixes(first.family, first.number, last))
-    ends = [address_text(first)] + ([address_text(Address(first.family, last))] if last != first.number else [])
-    return "-".join(ends)
+    return "-".join(address_text(end) for end in dict.fromkeys((first, Address(first.family, last))))
 
 
-def end_text(cluster: Cluster, report: str, end: object) -> str:
+def end_text(cluster: Cluster, report: str, end: RowEnd) -> str:
     """An end of a row."""
     if end is None:
         return "{ingress-controller}"
-    return cluster.workloads[end].name if isinstance(end, int) else range_text(report, end)  # type: ignore[arg-type]
+    return cluster.workloads[end].name if isinstance(end, int) else range_text(report, *end)
 
 
 def keeps(row: Row, focus: Optional[int], side: str) -> bool:
     """Whether a row is asked for: all are without a focus, and with one those that have its workload at the side."""
-    if focus is None:
-        return True
-    ends = {"either": (row.source, row.destination), "from": (row.source,), "to": (row.destination,)}[side]
-    return focus in ends
+    ends = {"either": (row.source, row.destination), "from": (row.source,), "to": (row.destination,)}
+    return focus is None or focus in ends[side]
 
 
 def list_reply(cluster: Cluster, options: Dict[str, str]) -> str:
     """The rows of the table that are asked for."""
-    controller = cluster.number_named(options["controller"]) if "controller" in options else None
-    focus = cluster.number_named(options["focus"]) if "focus" in options else None
-    report, texts = options["report"], []
+    controller, focus = [cluster.number_named(options[name]) if name in options else None for name in ("controller", "focus")]
+    texts = []
     for row in all_rows(cluster, controller):
         if keeps(row, focus, options["side"]):
-            destination = end_text(cluster, report, row.destination) + mark(row.family)
-            texts.append((end_text(cluster, report, row.source), destination, cluster.space.text(row.spots)))
+            source, destination = [end_text(cluster, options["report"], end) for end in (row.source, row.destination)]
+            texts.append((source, destination + row.mark, cluster.space.text(row.spots)))
     return report_text(options["format"], texts)
 
 
@@ -251,7 +210,6 @@ def sample_reply(cluster: Cluster) -> str:
     """How many workloads a sample has, and how many rows of each sort its table."""
     counts = {"pair": 0, "address": 0, "ingress": 0}
     for row in all_rows(cluster, None):
-        ends = (row.source, row.destination)
+        ends = row.source, row.destination
         counts["address" if any(isinstance(end, tuple) for end in ends) else "ingress" if None in ends else "pair"] += 1
-    lines = ["workloads %d\n" % len(cluster.workloads)]
-    return "".join(lines + ["%s rows %d\n" % (what, count) for what, count in counts.items()])
+    return "workloads %d\n" % len(cluster.workloads) + "".join("%s rows %d\n" % entry for entry in counts.items())

@@ -1,10 +1,12 @@
 """JSON values, their members, and the shapes that read them, or refuse them with the flaw that stands first (np_json)."""
 import json
+import math
 import re
 from functools import partial
-from typing import Any, Callable, Dict, List, NoReturn, Optional, Tuple, TypeVar, Union
+from itertools import accumulate
+from typing import Any, Callable, Dict, Optional, Tuple, TypeVar, Union
 
-from .model import PROTOCOLS, is_name, is_word
+from .model import LAST_PORT, PROTOCOLS, TCP, ObjectName, is_name, is_word
 
 # A JSON value as Python has it. A number that is no whole one of 64 bits is a float.
 Data = Any
@@ -18,33 +20,27 @@ STRING = re.compile(r'"[^"\\]*(?:\\.[^"\\]*)*"', re.DOTALL)
 BRACKET = re.compile(r"[\[\]{}]")
 
 
-class NotJson(Exception):
-    """The bytes are no JSON text in UTF-8, or nest too deep."""
-
-
 class Flaw(Exception):
     """What is wrong in a value, and where in it: the steps to the place, the outermost first."""
 
-    def __init__(self, kind: str) -> None:
-        super().__init__(kind)
+    def __init__(self, kind: str, *path: Step) -> None:
+        super().__init__(kind, *path)
         self.kind = kind
-        self.path: List[Step] = []
+        self.path = path
 
-    def path_text(self) -> str:
-        """`spec.ingress[0].from[0]`; the path of no step is `(whole)`."""
-        if not self.path:
-            return "(whole)"
-        parts = ["[%d]" % step if isinstance(step, int) else "." + step for step in self.path]
-        return "".join(parts)[0 if isinstance(self.path[0], int) else 1:]
+    def __str__(self) -> str:
+        """`spec.ingress[0].from[0]: BadField`; the path of no step is `(whole)`."""
+        steps = ["[%d]" % step if isinstance(step, int) else "." + step for step in self.path]
+        return "%s: %s" % ("".join(steps).lstrip(".") or "(whole)", self.kind)
 
 
 # ---- JSON texts
 
 def real(text: str) -> float:
-    """A number with a fraction or an exponent, or one that is too large for 64 bits."""
+    """A number with a fraction or an exponent, or one that is too large for 64 bits. What no float holds is no JSON."""
     number = float(text)
-    if number in (float("inf"), float("-inf")):
-        raise NotJson()
+    if not math.isfinite(number):
+        raise ValueError(text)
     return number
 
 
@@ -56,63 +52,34 @@ def whole_number(text: str) -> Union[int, float]:
     return number if -2 ** 63 <= number < 2 ** 63 else real(text)
 
 
-def no_constant(text: str) -> NoReturn:
-    """NaN and Infinity are no JSON."""
-    raise NotJson()
-
-
-def strings_in(value: Data) -> List[str]:
-    """All strings and names of members of a value."""
-    if isinstance(value, str):
-        return [value]
-    if isinstance(value, dict):
-        return [s for name, part in value.items() for s in [name] + strings_in(part)]
-    return [s for part in value for s in strings_in(part)] if isinstance(value, list) else []
-
-
-def is_deep(text: str) -> bool:
-    """Whether a JSON text nests deeper than is read."""
-    if text.count("[") + text.count("{") <= MOST_DEPTH:
-        return False
-    depth = deepest = 0
-    for bracket in BRACKET.findall(STRING.sub("", text)):
-        depth += 1 if bracket in "[{" else -1
-        deepest = max(deepest, depth)
-    return deepest > MOST_DEPTH
+def depth_of(text: str) -> int:
+    """How deep a JSON text nests."""
+    return max(accumulate(1 if bracket in "[{" else -1 for bracket in BRACKET.findall(STRING.sub("", text))), default=0)
 
 
 def json_of(data: bytes) -> Data:
-    """The JSON value of a text in UTF-8. Where an object has a member twice, the last one counts."""
-    try:
-        text = data.decode("utf-8")
-        if is_deep(text):
-            raise NotJson()
-        value = json.loads(text, parse_int=whole_number, parse_float=real, parse_constant=no_constant)
-    except (ValueError, RecursionError):
-        raise NotJson() from None
-    if "\\u" in text and any(SURROGATE.search(one) for one in strings_in(value)):
-        raise NotJson()
+    """The JSON value of a text in UTF-8, else ValueError. Where an object has a member twice, the last one counts."""
+    text = data.decode("utf-8")
+    if depth_of(text) > MOST_DEPTH:
+        raise ValueError("too deep")
+    value = json.loads(text, parse_int=whole_number, parse_float=real, parse_constant=real)
+    if any(SURROGATE.search(json.loads(string)) for string in STRING.findall(text) if "\\u" in string):
+        raise ValueError("half of a surrogate pair")
     return value
 
 
 # ---- members
 
+def refuse_if(broken: bool, kind: str, *path: Step) -> None:
+    """A rule on a value: where it is broken, a flaw of the part at the end of the path."""
+    if broken:
+        raise Flaw(kind, *path)
+
+
 def member(name: str, value: Data) -> Data:
     """The member of that name of what must be an object, and None where it is absent or null."""
-    if not isinstance(value, dict):
-        raise Flaw("BadField")
+    refuse_if(not isinstance(value, dict), "BadField")
     return value.get(name)
-
-
-def is_whole(value: Data) -> bool:
-    """Whether a value is a number without a fraction and an exponent that fits 64 bits."""
-    return type(value) is int
-
-
-def refuse_if(broken: bool, kind: str) -> None:
-    """A rule: the flaw of the whole value where it is broken."""
-    if broken:
-        raise Flaw(kind)
 
 
 def under(step: Step, shape: Shape[A], value: Data) -> A:
@@ -120,41 +87,32 @@ def under(step: Step, shape: Shape[A], value: Data) -> A:
     try:
         return shape(value)
     except Flaw as flaw:
-        flaw.path.insert(0, step)
-        raise
-
-
-def refuse_member_if(name: str, broken: bool, kind: str) -> None:
-    """A rule on a member: the member's flaw where it is broken."""
-    under(name, lambda value: refuse_if(broken, kind), None)
-
-
-def has_one_of(names: Tuple[str, ...], value: Data) -> bool:
-    """Whether exactly one of the members of those names is there."""
-    return sum(member(name, value) is not None for name in names) == 1
-
-
-def absent(value: Data) -> NoReturn:
-    """The shape of a member that must be there and is not."""
-    raise Flaw("BadField")
-
-
-def required(name: str, shape: Shape[A], value: Data) -> A:
-    """A member that must be there."""
-    found = member(name, value)
-    return under(name, absent if found is None else shape, found)
-
-
-def optional(name: str, shape: Shape[A], value: Data) -> Optional[A]:
-    """A member that may be missing."""
-    found = member(name, value)
-    return None if found is None else under(name, shape, found)
+        raise Flaw(flaw.kind, step, *flaw.path) from None
 
 
 def optional_or(missing: A, name: str, shape: Shape[A], value: Data) -> A:
     """A member that stands for this value where it is missing."""
     found = member(name, value)
     return missing if found is None else under(name, shape, found)
+
+
+def optional(name: str, shape: Shape[A], value: Data) -> Optional[A]:
+    """A member that may be missing."""
+    return optional_or(None, name, shape, value)
+
+
+def required(name: str, shape: Shape[A], value: Data) -> A:
+    """A member that must be there."""
+    found = member(name, value)
+    refuse_if(found is None, "BadField", name)
+    return under(name, shape, found)
+
+
+def one_of(kind: str, shapes: Dict[str, Shape[A]], value: Data) -> A:
+    """The one of these members that is there; a flaw of that kind where none is, or several."""
+    there = [name for name in shapes if member(name, value) is not None]
+    refuse_if(len(there) != 1, kind)
+    return required(there[0], shapes[there[0]], value)
 
 
 def items_of(shape: Shape[A], value: Data) -> Tuple[A, ...]:
@@ -189,14 +147,15 @@ def written(reads: Callable[[str], Optional[A]], kind: str) -> Shape[A]:
     return read
 
 
-# Values of one type, else BadField; names, else BadName; words, else BadField; ports, else BadPort; protocols, else BadProtocol.
+# Values of one type, else BadField; names, else BadName; words, else BadField; ports, else BadPort.
 text: Shape[str] = passing(lambda value: isinstance(value, str), "BadField", lambda value: value)
-whole: Shape[int] = passing(is_whole, "BadField", lambda value: value)
+whole: Shape[int] = passing(lambda value: type(value) is int, "BadField", lambda value: value)
 flag: Shape[bool] = passing(lambda value: isinstance(value, bool), "BadField", lambda value: value)
 name = passing(is_name, "BadName", text)
 word = passing(is_word, "BadField", text)
-port = passing(lambda number: 1 <= number <= 65535, "BadPort", whole)
-protocol_name = written(PROTOCOLS.get, "BadProtocol")
+port = passing(lambda number: 1 <= number <= LAST_PORT, "BadPort", whole)
+# The member `protocol`, which is TCP where it is missing, and another name than those of protocols BadProtocol.
+protocol = partial(optional_or, TCP, "protocol", written(PROTOCOLS.get, "BadProtocol"))
 # A namespace: a text that is empty, which stands for `default`, or a name.
 namespace = passing(is_name, "BadName", lambda value: text(value) or "default")
 
@@ -215,7 +174,7 @@ def type_meta(value: Data) -> Tuple[str, str]:
     return required("apiVersion", text, value), required("kind", text, value)
 
 
-def namespaced_name(value: Data) -> Tuple[str, str]:
-    """The namespace and the name of an object, of which the name is read first."""
+def namespaced_name(kind: str, value: Data) -> ObjectName:
+    """The name of an object of a kind that is in a namespace, by its metadata."""
     called = required("name", name, value)
-    return optional_or("default", "namespace", namespace, value), called
+    return ObjectName(kind, optional_or("default", "namespace", namespace, value), called)

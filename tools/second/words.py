@@ -1,8 +1,10 @@
 """The command line: what its words ask for (np_args)."""
+import re
+from functools import partial
 from typing import Callable, Dict, List, NamedTuple, Optional, Sequence, Tuple, Union
 
 from .addresses import Address, address_of
-from .model import PROTOCOLS
+from .model import LAST_PORT, PROTOCOL_NAMES
 
 # An end as a word names it: an address, or a name with a `/`.
 EndWord = Union[Address, str]
@@ -17,23 +19,19 @@ USAGE = """usage: np list [--format text|csv|json] [--report 1|2] [--controller 
        np sample N
 """
 
-
-class Command(NamedTuple):
-    """A command: its options with their default values, where they have one, and those that must be given."""
-    options: Dict[str, Optional[str]]
-    required: Tuple[str, ...] = ()
-
-
-COMMANDS = {
-    "list": Command({"format": "text", "report": "2", "controller": None, "focus": None, "side": "either"}),
-    "explain": Command({"from": None, "to": None}, ("from", "to")),
-    "exposure": Command({"workload": None, "format": "text"}),
-    "evaluate": Command({"from": None, "to": None, "protocol": None, "port": None}, ("from", "to", "protocol", "port")),
-    "unused": Command({}),
-    "check": Command({"statement": None}, ("statement",)),
-    "flatten": Command({}),
-    "sample": Command({}),
+# The options of each command, the values of those that need not be given, and those that must be.
+COMMANDS: Dict[str, Tuple[str, ...]] = {
+    "list": ("format", "report", "controller", "focus", "side"),
+    "explain": ("from", "to"),
+    "exposure": ("workload", "format"),
+    "evaluate": ("from", "to", "protocol", "port"),
+    "unused": (),
+    "check": ("statement",),
+    "flatten": (),
+    "sample": (),
 }
+DEFAULTS = {"format": "text", "report": "2", "side": "either"}
+REQUIRED = ("from", "to", "protocol", "port", "statement")
 
 
 class Job(NamedTuple):
@@ -42,42 +40,38 @@ class Job(NamedTuple):
     options: Dict[str, str]
     files: List[str]
 
-    def end(self, option: str) -> EndWord:
-        """The end that the value of an option names."""
-        found = end_of(self.options[option])
-        assert found is not None
-        return found
+    def ends(self) -> List[EndWord]:
+        """The ends that `from` and `to` name."""
+        return [address_of(self.options[name]) or self.options[name] for name in ("from", "to")]
 
 
 # ---- values
 
-def end_of(word: str) -> Optional[EndWord]:
-    """An end: a word with a `/` in it is a name, and any other must be an address."""
-    return word if "/" in word else address_of(word)
+def is_end(word: str) -> bool:
+    """Whether a word names an end."""
+    return "/" in word or address_of(word) is not None
 
 
-def number_to(most: int, word: str) -> Optional[int]:
-    """A number from 1 to `most` in decimal, without a sign or a leading zero."""
-    if not (word.isascii() and word.isdigit()) or word[0] == "0" or len(word) > 9:
-        return None
-    return int(word) if int(word) <= most else None
+def is_number_to(most: int, word: str) -> bool:
+    """Whether a word is a number from 1 to `most` in decimal, without a sign or a leading zero."""
+    return re.fullmatch("[1-9][0-9]{0,8}", word) is not None and int(word) <= most
 
 
 VALUES: Dict[str, Callable[[str], bool]] = {
-    "format": lambda word: word in ("text", "csv", "json"),
-    "report": lambda word: word in ("1", "2"),
-    "side": lambda word: word in ("either", "from", "to"),
-    "from": lambda word: end_of(word) is not None,
-    "to": lambda word: end_of(word) is not None,
-    "protocol": lambda word: word in PROTOCOLS,
-    "port": lambda word: number_to(65535, word) is not None,
+    "format": ("text", "csv", "json").__contains__,
+    "report": ("1", "2").__contains__,
+    "side": ("either", "from", "to").__contains__,
+    "from": is_end,
+    "to": is_end,
+    "protocol": PROTOCOL_NAMES.__contains__,
+    "port": partial(is_number_to, LAST_PORT),
 }
 
 
 # ---- words
 
-def options_in(command: Command, words: Sequence[str]) -> Optional[Tuple[Dict[str, str], List[str]]]:
-    """The options that are given, each once, and the words that are none; nothing where a word is out of place."""
+def options_in(names: Sequence[str], words: Sequence[str]) -> Optional[Tuple[Dict[str, str], List[str]]]:
+    """The options of these names that are given, each once, and the words that are none; nothing where a word is out of place."""
     given: Dict[str, str] = {}
     files: List[str] = []
     rest = list(words)
@@ -89,7 +83,7 @@ def options_in(command: Command, words: Sequence[str]) -> Optional[Tuple[Dict[st
             files.append(word)
             continue
         name, equals, value = word[2:].partition("=")
-        if not word.startswith("--") or name not in command.options or name in given:
+        if not word.startswith("--") or name not in names or name in given:
             return None
         if not equals:
             if not rest or (rest[0].startswith("-") and rest[0] != "-"):
@@ -101,18 +95,16 @@ def options_in(command: Command, words: Sequence[str]) -> Optional[Tuple[Dict[st
 
 def job_of(words: Sequence[str]) -> Optional[Job]:
     """What words ask for; the first is the command."""
-    if not words or words[0] not in COMMANDS:
-        return None
-    command = COMMANDS[words[0]]
-    found = options_in(command, words[1:])
-    if found is None:
+    names = COMMANDS.get(words[0]) if words else None
+    found = None if names is None else options_in(names, words[1:])
+    if names is None or found is None:
         return None
     given, files = found
     if words[0] == "sample":
-        return Job("sample", {}, files) if len(files) == 1 and number_to(1000, files[0]) is not None else None
-    if any(name not in given for name in command.required) or not all(VALUES[name](given[name]) for name in given if name in VALUES):
+        return Job("sample", {}, files) if len(files) == 1 and is_number_to(1000, files[0]) else None
+    if any(name in REQUIRED and name not in given for name in names):
         return None
-    options = {name: value for name, value in command.options.items() if value is not None}
-    options.update(given)
-    files = ([options["statement"]] if words[0] == "check" else []) + (files or ["-"])
-    return Job(words[0], options, files) if files.count("-") < 2 else None
+    if not all(VALUES[name](value) for name, value in given.items() if name in VALUES):
+        return None
+    files = [given[name] for name in names if name == "statement"] + (files or ["-"])
+    return Job(words[0], {**DEFAULTS, **given}, files) if files.count("-") < 2 else None
