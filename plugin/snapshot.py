@@ -9,8 +9,9 @@ from plugin.caveats.beside import Beside
 from plugin.room import Room
 from plugin.said import say, step, stop, write
 
-# How many bytes np reads.
+# How many bytes np reads, and how many objects.
 MOST = 33554432
+MOST_ITEMS = 20000
 _CHUNK = 1 << 20
 
 
@@ -18,17 +19,33 @@ def fetch_file(name: str, room: Room, beside: Beside) -> Path:
     """The path of the list that --list names. It stays as it is, so that the numbers of items in faults are those of
     the file; where it is no file, or is too large for np, it is a copy in the room."""
     path = Path(os.path.abspath(name))
-    if name != "-" and path.is_file() and path.stat().st_size <= MOST and os.access(path, os.R_OK):
+    if name != "-" and path.is_file() and os.access(path, os.R_OK) and not _excess(path):
         return path
+    path = room.path("list")
     with room.writing(), room.create("list") as file:
         _copy(name, file)
-    if room.path("list").stat().st_size > MOST:
-        say("the list has more than %d bytes, so only what np reads is kept of it" % MOST)
-        filter_file(str(room.path("list")), room, beside)
-    return room.path("list")
+    excess = _excess(path)
+    if excess:
+        say("the list has more than %s, so only what np reads is kept of it" % excess)
+        filter_file(str(path), room, beside)
+    return path
 
 
-def filter_file(name: str, room: Room, beside: Optional[Beside] = None) -> None:
+def _excess(path: Path) -> str:
+    """Of what the list in the file has more than np takes; nothing where it takes all. Each object has a version."""
+    if path.stat().st_size > MOST:
+        return "%d bytes" % MOST
+    data = path.read_bytes()
+    if data.count(b'"apiVersion"') <= MOST_ITEMS:
+        return ""
+    from plugin import jsontext
+    try:
+        return "%d objects" % MOST_ITEMS if len(jsontext.objects(data)) > MOST_ITEMS else ""
+    except jsontext.NotTaken:
+        return ""
+
+
+def filter_file(name: str, room: Room, beside: Beside) -> None:
     """Writes what np reads of the list in the file (- for standard input) into the file `list` of the room."""
     from plugin.members import keep_of_text
     step("keeping what np reads")

@@ -1,9 +1,10 @@
-"""What np does not read of objects, and caveats need: it is looked at before the filter drops it."""
+"""What np is not given of objects, and caveats need: it is looked at before the filter drops it."""
 from __future__ import annotations
 
-from typing import Any, Dict, FrozenSet, Iterable, List, NamedTuple, Tuple
+from typing import Any, Dict, FrozenSet, Iterable, List, NamedTuple, Optional, Tuple
 
 from plugin import values
+from plugin.left_out import LeftOut
 
 # The type of an object, its namespace and its name.
 Place = Tuple[str, str, str]
@@ -32,7 +33,8 @@ class UnknownLabel(NamedTuple):
 class Beside:
     """What is known of objects beside their list. Objects are seen from several threads, each of another kind."""
 
-    def __init__(self) -> None:
+    def __init__(self, left: Optional[LeftOut] = None) -> None:
+        self.left_out = left or LeftOut()
         self.unknown_labels: List[UnknownLabel] = []
         self._sidecars: Dict[Place, FrozenSet[Port]] = {}
 
