@@ -7,8 +7,8 @@ address. Of pods that are alike np needs the first and the second in their order
 from __future__ import annotations
 
 import hashlib
-import ipaddress
 import json
+import socket
 from bisect import bisect_right
 from typing import Any, Dict, Iterable, List, Optional, Tuple
 
@@ -47,11 +47,11 @@ class Alike:
             raise Different
         compared = [metadata.get("namespace"), _owners(metadata), self._labels(metadata), pod.get("spec"), status.get("phase"),
                     self._addresses(status), sorted(self._beside.sidecars(pod))]
-        return hashlib.blake2b(json.dumps(compared).encode("ascii"), digest_size=16).digest()
+        return hashlib.blake2b(repr(compared).encode("utf-8"), digest_size=16).digest()
 
     def _labels(self, metadata: Dict[str, Any]) -> List[Tuple[str, Any]]:
         labels = _object(metadata.get("labels"))
-        if not all(is_word(labels.get(key, "")) for key in self._unasked):
+        if not all(is_word(labels[key]) for key in self._unasked if key in labels):
             raise Different
         return sorted((key, value) for key, value in labels.items() if key not in self._unasked)
 
@@ -59,7 +59,9 @@ class Alike:
         """Between which bounds the addresses lie, of either family. Which peers of `networks` match a pod depends on that
         alone, and so do the families of the list."""
         texts = [status.get("podIP"), *(each.get("ip") for each in _objects(status.get("podIPs")))]
-        found = {_number(text) for text in texts if text not in (None, "")}
+        if not all(text is None or isinstance(text, str) for text in texts):
+            raise Different
+        found = set(map(_number, filter(None, dict.fromkeys(texts))))
         if self._bounds is None:
             return sorted(found)
         return sorted({(version, bisect_right(self._bounds[version], number)) for version, number in found})
@@ -83,15 +85,13 @@ def _bounds(networks: "set[str]") -> Optional[Dict[int, List[int]]]:
     return {version: sorted(numbers) for version, numbers in found.items()}
 
 
-def _number(text: Any) -> Tuple[int, int]:
+def _number(text: str) -> Tuple[int, int]:
     """The family of an address and its number."""
-    if not isinstance(text, str) or "%" in text:
-        raise Different
+    version, family = (6, socket.AF_INET6) if ":" in text else (4, socket.AF_INET)
     try:
-        address = ipaddress.ip_address(text)
-    except ValueError:
+        return version, int.from_bytes(socket.inet_pton(family, text), "big")
+    except (OSError, ValueError):
         raise Different from None
-    return address.version, int(address)
 
 
 def _object(value: Any) -> Dict[str, Any]:

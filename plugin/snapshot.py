@@ -19,20 +19,22 @@ def fetch_file(name: str, room: Room, beside: Beside) -> Path:
     """The path of the list that --list names. It stays as it is, so that the numbers of items in faults are those of
     the file; where it is no file, or is too large for np, it is a copy in the room."""
     path = Path(os.path.abspath(name))
-    if name != "-" and path.is_file() and os.access(path, os.R_OK) and not _excess(path):
+    is_read_in_place = name != "-" and path.is_file() and os.access(path, os.R_OK)
+    excess = _excess(path) if is_read_in_place else ""
+    if is_read_in_place and not excess:
         return path
-    path = room.path("list")
     with room.writing(), room.create("list") as file:
         _copy(name, file)
-    excess = _excess(path)
+    excess = excess or _excess(room.path("list"))
     if excess:
         say("the list has more than %s, so only what np reads is kept of it" % excess)
-        filter_file(str(path), room, beside)
-    return path
+        filter_file(str(room.path("list")), room, beside)
+    return room.path("list")
 
 
 def _excess(path: Path) -> str:
-    """Of what the list in the file has more than np takes; nothing where it takes all. Each object has a version."""
+    """What the list in the file has more of than np takes; empty where np takes it. Each object has a version, so most lists
+    are not read for that."""
     if path.stat().st_size > MOST:
         return "%d bytes" % MOST
     data = path.read_bytes()
@@ -40,9 +42,10 @@ def _excess(path: Path) -> str:
         return ""
     from plugin import jsontext
     try:
-        return "%d objects" % MOST_ITEMS if len(jsontext.objects(data)) > MOST_ITEMS else ""
+        count = len(jsontext.objects(data))
     except jsontext.NotTaken:
         return ""
+    return "%d objects" % MOST_ITEMS if count > MOST_ITEMS else ""
 
 
 def filter_file(name: str, room: Room, beside: Beside) -> None:

@@ -41,8 +41,8 @@ def thin(file: IO[bytes], spools: List[Spool], room: Room, beside: Beside) -> No
             break
     count = beside.left_out.count
     if count:
-        note("np takes %d objects and %d bytes at the most, so %d pods are left out: no answer tells them from two others of "
-             "their owner, which stay" % (MOST_ITEMS, MOST, count))
+        note("%d pods are left out, since np takes at most %d objects and %d bytes; each is like two that stay, so no row changes" % (
+            count, MOST_ITEMS, MOST))
 
 
 def _lines(spools: List[Spool]) -> Iterator[bytes]:

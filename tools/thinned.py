@@ -3,37 +3,46 @@
 
     tools/thinned.py [--program dist/np] FILE..
 
-Each FILE that is a list is looked at twice: as it is, and with three more pods for each, all of one owner. The rows of `list` and of
-`exposure`, the rules of `unused` and the policies of `flatten` have to be the same, and so have the status, notes and faults, once the plugin
-has added to the counts of pods those that were left out; but for the numbers of objects, which have to be those of the same objects. It
-prints how many lists were looked at and how many pods were left out of them, and ends with status 1 at the first that differs.
+Each FILE that is a list is looked at as it is, with three more pods for each, all of one owner, and with another one that stands twice or
+that np refuses. The rows of `list` and of `exposure`, the rules of `unused` and the policies of `flatten` have to be the same. So have the
+status, the notes and the faults, once the plugin has added to the counts of pods those that were left out; only the numbers of objects may
+differ, and have to name the same objects. It prints how many lists were looked at and how many pods were left out of them, and ends with
+status 1 at the first that differs.
 """
 from __future__ import annotations
 
 import argparse
 import copy
+import itertools
 import json
 import os
 import re
 import subprocess
 import sys
 from pathlib import Path
-from typing import Any, Dict, Iterator, List, Tuple
+from typing import Any, Dict, Iterator, List, Sequence, Tuple
 
 TOP = Path(os.path.abspath(__file__)).parent.parent
 sys.path.insert(0, str(TOP / "tools" / "relations"))
 from replicas import Thinned  # noqa: E402
 
 from plugin import said  # noqa: E402
+from plugin.replicas import JOB_INDEX  # noqa: E402
 
 COMMANDS = ("list", "exposure", "unused", "flatten")
+# What makes np refuse a pod: where a value stands, and the value. Each list has another one.
+FAULTS: "Iterator[Tuple[Sequence[str], Any]]" = itertools.cycle([
+    (("metadata", "name"), "a b"), (("metadata", "labels", JOB_INDEX), "a b"), (("metadata", "labels"), []),
+    (("metadata", "ownerReferences"), [None]), (("status", "podIP"), "10.0.0.256"), (("status", "podIPs"), [None]),
+    (("status", "podIPs"), [{"ip": 1}]), (("status",), []), (("status", "phase"), 1)])
 MOST = 300_000  # bytes of a file
-_NUMBERS = re.compile(r"(?<=^error: item )[0-9]+|(?<=^error: items )[0-9]+| and [0-9]+(?=: Duplicate$)|(?<=^note: item )[0-9]+", re.MULTILINE)
+_ITEMS = re.compile(r"^(?:error|note): items? [0-9]+(?: and [0-9]+)?: ", re.MULTILINE)
 Item = Dict[str, Any]
 
 
 def lists(path: Path) -> Iterator[List[Any]]:
-    """The items of the list in the file, and those with more pods; nothing where the file is no list."""
+    """The items of the list in the file, and those with more pods, of which one may stand twice or be refused; nothing where the file is
+    no list."""
     try:
         whole = json.loads(path.read_bytes()) if path.stat().st_size <= MOST else None
     except (ValueError, RecursionError):
@@ -43,14 +52,35 @@ def lists(path: Path) -> Iterator[List[Any]]:
         yield items
         more = [each for item in items for each in more_pods(item)]
         if len(more) > len(items):
+            last = next(item for item in reversed(more) if is_pod(item))
             yield more
+            yield [*more, last]
+            yield [*more, spoilt(last, *next(FAULTS))]
+
+
+def spoilt(pod: Item, where: Sequence[str], value: Any) -> Item:
+    """A pod like this one, which np refuses."""
+    found = copy.deepcopy(pod)
+    found["metadata"]["name"] += "-spoilt"
+    part = found
+    for name in where[:-1]:
+        part[name] = part[name] if isinstance(part.get(name), dict) else {}
+        part = part[name]
+    part[where[-1]] = value
+    return found
+
+
+def is_pod(item: Any) -> bool:
+    """Whether the item is a pod that has a name."""
+    metadata = item.get("metadata") if isinstance(item, dict) and item.get("kind") == "Pod" else None
+    return isinstance(metadata, dict) and isinstance(metadata.get("name"), str)
 
 
 def more_pods(item: Any) -> List[Any]:
     """The item, and three more where it is a pod. One without an owner gets one."""
-    metadata = item.get("metadata") if isinstance(item, dict) and item.get("kind") == "Pod" else None
-    if not isinstance(metadata, dict) or not isinstance(metadata.get("name"), str):
+    if not is_pod(item):
         return [item]
+    metadata = item["metadata"]
     owner = {"apiVersion": "apps/v1", "kind": "ReplicaSet", "name": metadata["name"], "controller": True}
     owners = metadata.get("ownerReferences") or [owner]
     return [dict(copy.deepcopy(item), metadata=dict(metadata, name=metadata["name"] + more, ownerReferences=owners))
@@ -69,12 +99,12 @@ def whole_answer(answer: Tuple[int, str, str], thinned: Thinned) -> Tuple[int, s
     status, out, err = answer
     said.not_given = thinned.left_out
     err = said.with_all_pods(err.encode()).decode()
-    return status, out, _NUMBERS.sub(lambda found: renumbered(found.group(), thinned.places), err)
+    return status, out, _ITEMS.sub(lambda head: renumbered(head.group(), thinned.places), err)
 
 
 def renumbered(text: str, places: List[int]) -> str:
-    number = re.sub("[^0-9]", "", text)
-    return text.replace(number, str(places[int(number) - 1] + 1))
+    """The text with the numbers that the objects have in the whole list."""
+    return re.sub("[0-9]+", lambda number: str(places[int(number.group()) - 1] + 1), text)
 
 
 def main() -> None:

@@ -15,7 +15,8 @@ from plugin.rollouts import Rollouts  # noqa: E402
 from plugin.room import Room  # noqa: E402
 
 said.is_quiet = True
-OWNERS = [("StatefulSet", "db"), ("StatefulSet", "web"), ("ReplicaSet", "web"), ("DaemonSet", "agent"), ("Job", "load"), ("Node", "n"), None]
+OWNERS = [("StatefulSet", "db"), ("StatefulSet", "web"), ("ReplicaSet", "web"), ("DaemonSet", "agent"), ("Job", "load"), ("Node", "n"),
+          None]
 ADDRESSES = [[], ["10.0.0.2"], ["10.0.0.9"], ["10.0.0.9"], ["11.0.0.1"], ["10.0.0.9", "fd00::2"], ["fd00::3", "10.0.0.9"], ["fe00::1"]]
 
 
@@ -67,7 +68,7 @@ def with_replicas(items, rng):
             pod["metadata"]["namespace"] = "nstwo"
     if rng.random() < 0.3:
         key = rng.choice([POD_NAME, POD_INDEX, JOB_INDEX])
-        value = rng.choice([pod["metadata"]["labels"][key] for pod in lists.kinds(found, "Pod") if key in pod["metadata"]["labels"]] or ["0"])
+        value = rng.choice([pod["metadata"]["labels"].get(key, "0") for pod in lists.kinds(found, "Pod")])
         spec = {"selector": {key: value}, "ports": [{"port": 80}]}
         found.append({"apiVersion": "v1", "kind": "Service", "metadata": {"name": "one", "namespace": "nsone"}, "spec": spec})
     return rng.sample(found, len(found)) if rng.random() < 0.5 else found
