@@ -17,7 +17,8 @@ from plugin.room import Room  # noqa: E402
 said.is_quiet = True
 OWNERS = [("StatefulSet", "db"), ("StatefulSet", "web"), ("ReplicaSet", "web"), ("DaemonSet", "agent"), ("Job", "load"), ("Node", "n"),
           None]
-ADDRESSES = [[], ["10.0.0.2"], ["10.0.0.9"], ["10.0.0.9"], ["11.0.0.1"], ["10.0.0.9", "fd00::2"], ["fd00::3", "10.0.0.9"], ["fe00::1"]]
+USUAL = [["10.0.0.9"], ["10.0.0.8"]]
+RARE = [[], ["10.0.0.2"], ["11.0.0.1"], ["10.0.0.9", "fd00::2"], ["fd00::3", "10.0.0.9"], ["fe00::1"]]
 
 
 class Thinned:
@@ -51,20 +52,20 @@ def replica(pod, owner, index, rng):
         labels.update({POD_NAME: made["metadata"]["name"], POD_INDEX: str(index)})
     if owner and owner[0] == "Job":
         labels[JOB_INDEX] = str(index)
-    made["spec"]["hostNetwork"] = rng.random() < 0.15
-    made["status"] = {"phase": rng.choice(["Running"] * 6 + ["Succeeded"]), "podIPs": [{"ip": ip} for ip in rng.choice(ADDRESSES)]}
+    made["spec"]["hostNetwork"] = rng.random() < 0.1
+    made["status"] = {"phase": rng.choice(["Running"] * 9 + ["Succeeded"]), "podIPs": [{"ip": ip} for ip in rng.choice(USUAL * 7 + RARE)]}
     return made
 
 
 def with_replicas(items, rng):
-    """The list with up to six pods in the place of each, in either namespace and of several owners, and with selectors that may ask for one
-    pod of many."""
+    """The list with up to eighteen pods in the place of each, in either namespace and of two owners, and with selectors that may ask for
+    one pod of many."""
     found = [item for item in items if item["kind"] != "Pod"]
     for pod in lists.kinds(items, "Pod"):
         pod["metadata"]["namespace"] = "nsone"
-        found += [replica(pod, owner, index, rng) for owner in rng.sample(OWNERS, 2) for index in range(rng.randrange(1, 7))]
+        found += [replica(pod, owner, index, rng) for owner in rng.sample(OWNERS, 2) for index in range(rng.randrange(1, 10))]
     for pod in lists.kinds(found, "Pod"):
-        if rng.random() < 0.2:
+        if rng.random() < 0.15:
             pod["metadata"]["namespace"] = "nstwo"
     if rng.random() < 0.3:
         key = rng.choice([POD_NAME, POD_INDEX, JOB_INDEX])
