@@ -50,8 +50,7 @@ def _filter() -> None:
     from plugin import snapshot
     from plugin.caveats.beside import Beside
     with Room() as room:
-        snapshot.filter_file("-", room, Beside())
-        snapshot.print_list(room.path("list"))
+        snapshot.print_list(snapshot.filter_input(room, Beside()))
 
 
 def _answer(words: Words, program: Program) -> int:

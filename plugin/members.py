@@ -13,6 +13,7 @@ docs/use/TABLES.md says which members these are.
 """
 from __future__ import annotations
 
+import shutil
 from typing import IO, Any, Dict, Iterable, Iterator, List, Tuple
 
 from plugin import jsontext
@@ -147,18 +148,19 @@ def write_within_limits(file: IO[bytes], spools: List[Spool], room: Room, beside
         thinning.thin(file, spools, room, beside)
 
 
-def keep_of_text(data: bytes, file: IO[bytes], room: Room, beside: Beside) -> None:
+def keep_of_text(text: IO[bytes], file: IO[bytes], room: Room, beside: Beside) -> None:
     """Writes to the file what is kept of a text: of a list that of its items, of anything else that of the one object
     that it is. Where np would refuse the text as no JSON all of it is written, and np says so."""
     try:
-        _keep_of_text(jsontext.text_of(data), file, room, beside)
+        _keep_of_text(text, file, room, beside)
     except jsontext.NotTaken:
+        text.seek(0)
         file.seek(0)
         file.truncate()
-        file.write(data)
+        shutil.copyfileobj(text, file)
 
 
-def _keep_of_text(text: str, file: IO[bytes], room: Room, beside: Beside) -> None:
+def _keep_of_text(text: IO[bytes], file: IO[bytes], room: Room, beside: Beside) -> None:
     whole: Dict[str, Any] = {}
     spool = Spool(room, "items", Rollouts(), beside)
     for name, value in jsontext.members(text):
@@ -173,7 +175,8 @@ def _keep_of_text(text: str, file: IO[bytes], room: Room, beside: Beside) -> Non
                 spool = Spool(room, "items", Rollouts(), beside)  # of a member that stands twice the last counts
     spool.close()
     if (whole.get("apiVersion"), whole.get("kind")) != ("v1", "List"):
-        file.write(jsontext.write(kept(jsontext.read(text.encode("utf-8")))) + b"\n")
+        text.seek(0)
+        file.write(jsontext.write(kept(jsontext.read(text.read()))) + b"\n")
     elif isinstance(whole.get("items"), list):
         write_within_limits(file, [spool], room, beside)
     else:

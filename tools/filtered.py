@@ -18,5 +18,5 @@ from plugin.room import Room  # noqa: E402
 with Room() as room:
     for name in sys.argv[1:]:
         kept = io.BytesIO()
-        keep_of_text(Path(name).read_bytes(), kept, room, Beside())
+        keep_of_text(io.BytesIO(Path(name).read_bytes()), kept, room, Beside())
         sys.stdout.buffer.write(kept.getvalue().rstrip(b"\n").replace(b"\n", b" ") + b"\n")
