@@ -1,9 +1,10 @@
 #!/usr/bin/env python3
 """What `kubectl np` needs for clusters of very many pods: bench/many_pods.py [--pods NUMBER]..
 
-In the place of kubectl is tools/fake-cluster, whose pods have 6 kB each that np does not read. Of each number of pods (10,000, 30,000 and 100,000
-without a word), in 1,500 workloads, a line says how long `snapshot` and `list` with a focus take, and how much memory the largest of their
-processes has; and how long the stand-in takes for the pages of pods alone. The numbers are those of one machine; docs/use/PLUGIN.md has them.
+In the place of kubectl is tools/fake-cluster, whose pods have 6 kB each that np does not read. Of each number of pods (10,000, 30,000
+and 100,000 without a word), in 1,500 workloads, a line says how long `snapshot` and `list` with a focus take, and how much memory the
+largest of their processes has; and how long the stand-in takes for the pages of pods alone. The numbers are those of one machine;
+docs/use/PLUGIN.md has them.
 """
 from __future__ import annotations
 

@@ -8,7 +8,7 @@ docs/use/TABLES.md says which members these are.
   some.
 - A value that has not the type that its shape says stays as it is, and so does null: what it is is np's to say.
 - The specs of policies stay whole. They are small, and a selector is refused for a member that it does not have.
-- ReplicaSets of former rollouts go (`rollouts`).
+- ReplicaSets of former rollouts go (`rollouts`), and of a list that is too large pods that are like two others (`thinning`).
 - What np refuses as no JSON stays as it is.
 """
 from __future__ import annotations

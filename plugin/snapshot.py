@@ -29,12 +29,12 @@ def fetch_file(name: str, room: Room, beside: Beside) -> Path:
 
 
 def _excess(path: Path) -> str:
-    """What the list in the file has more of than np takes; empty where np takes it. Each object has a version, so most lists
-    are not read for that."""
+    """What the list in the file has more of than np takes; empty where np takes it. Each object has metadata, and few have more
+    in them, so hardly a list is read for that."""
     if path.stat().st_size > MOST:
         return "%d bytes" % MOST
     data = path.read_bytes()
-    if data.count(b'"apiVersion"') <= MOST_ITEMS:
+    if data.count(b'"metadata"') <= MOST_ITEMS:
         return ""
     from plugin import jsontext
     try:

@@ -37,6 +37,7 @@ class Beside:
         self.left_out = left or LeftOut()
         self.unknown_labels: List[UnknownLabel] = []
         self._sidecars: Dict[Place, FrozenSet[Port]] = {}
+        self._equal: Dict[FrozenSet[Port], FrozenSet[Port]] = {}  # one for all that are equal, since there may be very many
 
     def see(self, item: Any) -> None:
         """Takes an object as it was before the filter."""
@@ -52,7 +53,7 @@ class Beside:
     def _see_containers(self, item: Dict[str, Any], containers: List[Dict[str, Any]]) -> None:
         ports = ports_of([each for each in containers if each.get("restartPolicy") == "Always"])
         if ports:
-            self._sidecars[_place(item)] = ports
+            self._sidecars[_place(item)] = self._equal.setdefault(ports, ports)
 
 
 def _place(item: Dict[str, Any]) -> Place:

@@ -1,12 +1,14 @@
-"""A cluster of very many pods, for the stand-in for kubectl: pages of objects are made when they are asked for. The file `cluster` of a case has
+"""A cluster of very many pods, for the stand-in for kubectl: pages are made when they are asked for. The file `cluster` of a case has
 
     pods = NUMBER           how many pods there are, the same number for each of 1,500 workloads
     padding = NUMBER        how many characters a pod has that np does not read (0)
     service = JSON          the spec of the one Service, in the namespace s1 (it selects a Deployment)
 
-and behind that `exec(large())`. In 30 namespaces there are three StatefulSets, w1, w51 and w101, the DaemonSet w2 on the network of its nodes,
-and else Deployments. A policy in each namespace lets in what has the label `team` with one of two values of seven.
+and behind that `exec(large())`. In 30 namespaces there are three StatefulSets, w1, w51 and w101, the DaemonSet w2 on the network of its
+nodes, and else Deployments. A policy in each namespace lets in what has the label `team` with one of two values of seven.
 """
+import sys
+
 WORKLOADS, SPACES = 1500, 30
 KINDS = {1: "StatefulSet", 51: "StatefulSet", 101: "StatefulSet", 2: "DaemonSet"}
 settings = {"padding": 0, "service": '{"selector":{"app":"w3"},"ports":[{"port":80}]}', **globals()}
@@ -34,7 +36,8 @@ def pod(number):
     kind = kind_of(workload).replace("Deployment", "ReplicaSet")
     name = "w%d-%d" % (workload, index)
     own = ',"statefulset.kubernetes.io/pod-name":"%s"' % name if kind == "StatefulSet" else ""
-    more = ',"labels":{%s%s},"annotations":{"a":"%s"}%s' % (labels(workload), own, "x" * settings["padding"], owned_by(kind, "w%d" % workload))
+    more = ',"labels":{%s%s},"annotations":{"a":"%s"}%s' % (
+        labels(workload), own, "x" * settings["padding"], owned_by(kind, "w%d" % workload))
     network = '"hostNetwork":true,' if kind == "DaemonSet" else ""
     address = "10.%d.%d.%d" % (number >> 16, number >> 8 & 255, number & 255)
     return '{%s,"spec":{%s"nodeName":"n%d","containers":[{"ports":[{"name":"http","containerPort":8080}]}]},"status":{"podIP":"%s"}}' % (

@@ -58,12 +58,12 @@ def replica(pod, owner, index, rng):
 
 
 def with_replicas(items, rng):
-    """The list with up to eighteen pods in the place of each, in either namespace and of two owners, and with selectors that may ask for
+    """The list with up to 24 pods in the place of each, in either namespace and of two owners, and with selectors that may ask for
     one pod of many."""
     found = [item for item in items if item["kind"] != "Pod"]
     for pod in lists.kinds(items, "Pod"):
         pod["metadata"]["namespace"] = "nsone"
-        found += [replica(pod, owner, index, rng) for owner in rng.sample(OWNERS, 2) for index in range(rng.randrange(1, 10))]
+        found += [replica(pod, owner, index, rng) for owner in rng.sample(OWNERS, 2) for index in range(rng.choice([1, 2, 3, 12]))]
     for pod in lists.kinds(found, "Pod"):
         if rng.random() < 0.15:
             pod["metadata"]["namespace"] = "nstwo"
