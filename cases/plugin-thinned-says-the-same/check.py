@@ -51,7 +51,8 @@ def questions(items, rng):
     addresses = [ip["ip"] for item in items if item["kind"] == "Pod" for ip in item["status"]["podIPs"]]
     with open("statements", "w", encoding="utf-8") as file:
         file.writelines(random_line(table, rng) + "\n" for _ in range(12))
-        file.write("deny pods nsone %s=p1-statefulset-db-3 => namespace nsone : All Connections\n" % replicas.POD_NAME)
+        for name in [item["metadata"]["labels"].get(replicas.POD_NAME) for item in items if item["kind"] == "Pod"]:
+            file.write("deny pods nsone %s=%s => namespace nsone : All Connections\n" % (replicas.POD_NAME, name) if name else "")
     with open("plain", "w", encoding="utf-8") as file:
         file.write("allow %s => any pod : TCP 1\ndeny any pod => any pod : TCP 80\n" % rng.choice(["10.0.0.0/29", *addresses]))
     listed = "list", "caveats", "names pods", "gate statements", "gate --as-address statements", "check --statement plain", "page"
