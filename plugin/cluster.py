@@ -13,7 +13,7 @@ from plugin import context, discovery, jsontext
 from plugin.caveats.beside import Beside
 from plugin.kinds import Kind
 from plugin.kubectl import Kubectl, ask_all
-from plugin.members import Spool, write_list
+from plugin.members import Spool, write_within_limits
 from plugin.rollouts import Rollouts
 from plugin.room import Room
 from plugin.said import step, stop
@@ -51,7 +51,7 @@ class Cluster:
             spools = ask_all(self._fetch_kind, present)
             step("keeping what np reads")
             with self._room.create("list") as file:
-                write_list(file, spools)
+                write_within_limits(file, spools, self._room, self._beside)
 
     def _fetch_kind(self, kind: Kind) -> Spool:
         try:

@@ -8,7 +8,7 @@ from functools import cached_property
 from pathlib import Path
 from typing import TYPE_CHECKING, List, Optional
 
-from plugin import said, snapshot, words as command_line
+from plugin import left_out, said, snapshot, words as command_line
 from plugin.caveats.beside import Beside
 from plugin.children import Ended
 from plugin.program import Program
@@ -36,7 +36,7 @@ class Command:
     def __init__(self, words: Words, program: Program) -> None:
         self.words = words
         self.program = program
-        self.beside = Beside()
+        self.beside = Beside(left_out.of(words))
 
     def run(self) -> int:
         """Checks the words, gets the objects, and answers; returns the status."""
@@ -46,7 +46,7 @@ class Command:
             kubectl.find()
         with Room() as self.room:
             self.list = self._fetch()
-            said.name_item = self._name_item
+            said.name_item, said.not_given = self._name_item, self.beside.left_out.counts
             try:
                 return self.answer()
             except Stop as end:
@@ -112,7 +112,7 @@ class Names(Command):
         from plugin import names
         found = names.workloads(self.program, self.list)
         if self.words.own:
-            found = names.pods(self.list)
+            found = names.pods(self.list, self.beside.left_out)
         text = names.text(found)
         if self.words.has_cluster:
             names.keep("pods" if self.words.own else "names", text)
@@ -226,7 +226,7 @@ class Question(Command):
 
     def _names(self) -> List[str]:
         from plugin import names
-        return names.pods(self.list) if self.words.command == "evaluate" else names.workloads(self.program, self.list)
+        return names.pods(self.list, self.beside.left_out) if self.words.command == "evaluate" else names.workloads(self.program, self.list)
 
     def _tell_foreign(self, ended: Ended) -> None:
         """Where np refused an item of a manifest since it is a policy that it does not read, says of which kind it

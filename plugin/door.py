@@ -48,9 +48,9 @@ def _run(words: Words) -> int:
 def _filter() -> None:
     """Prints what np reads of the list on standard input."""
     from plugin import snapshot
+    from plugin.caveats.beside import Beside
     with Room() as room:
-        snapshot.filter_file("-", room)
-        snapshot.print_list(room.path("list"))
+        snapshot.print_list(snapshot.filter_input(room, Beside()))
 
 
 def _answer(words: Words, program: Program) -> int:

@@ -7,13 +7,18 @@ counts, as for np. Numbers keep their spelling, since np tells 80 from 80.0 and 
 """
 from __future__ import annotations
 
+import codecs
 import json
 import re
-from typing import Any, Dict, Iterator, List, NoReturn, Optional, Tuple
+from typing import IO, Any, Dict, Iterator, List, NoReturn, Optional, Tuple
 
 # How deep np reads.
 _DEEPEST = 127
+# How much of a file is read at once.
+_BLOCK = 1 << 18
+
 _BLANKS = re.compile(r"[ \t\n\r]*")
+_IN_NUMBER = re.compile(r"[-+.eE0-9]*")
 _HALF_LETTER = re.compile(r"\\u[dD][89a-fA-F]")
 
 
@@ -91,14 +96,18 @@ class _Cursor:
 
     def value(self, depth: int) -> Any:
         """The value that stands here, which lies so deep; goes on behind it."""
+        value = self._decoded()
+        _check_depth(value, depth)
+        self._pass_blanks()
+        return value
+
+    def _decoded(self) -> Any:
         try:
             value, self.place = self._decoder.raw_decode(self.text, self.place)
         except (NotTaken, Twins):
             raise
         except (ValueError, RecursionError) as error:
             raise NotTaken(str(error)) from None
-        _check_depth(value, depth)
-        self._pass_blanks()
         return value
 
     def parts(self, end: str) -> Iterator[None]:
@@ -124,6 +133,49 @@ class _Cursor:
             raise NotTaken("it goes on behind its end")
 
 
+class _Stream(_Cursor):
+    """A place in a text that is read from a file as far as it is needed, since it may be very long: what lies behind is let
+    go."""
+
+    def __init__(self, file: IO[bytes]) -> None:
+        self._file = file
+        self._decode = codecs.getincrementaldecoder("utf-8")().decode
+        self._is_whole = False
+        super().__init__("")
+
+    def _read_on(self) -> None:
+        """Reads the next part of the text: as much as there is, so that a long value is not begun too often."""
+        block = self._file.read(max(_BLOCK, len(self.text)))
+        try:
+            more = self._decode(block, not block)
+        except UnicodeDecodeError:
+            raise NotTaken("it is no UTF-8") from None
+        self.text, self.place = self.text[self.place:] + more, 0
+        self._is_whole = not block
+
+    def _pass_blanks(self) -> None:
+        super()._pass_blanks()
+        while self.is_at_end() and not self._is_whole:
+            self._read_on()
+            super()._pass_blanks()
+
+    def _decoded(self) -> Any:
+        """The value that stands here, once all of it has been read. A number may go on behind the text, as 1 in 1.5."""
+        while True:
+            start = self.place
+            try:
+                value = super()._decoded()
+            except NotTaken:
+                if self._is_whole:
+                    raise
+            else:
+                if self._is_whole or not _IN_NUMBER.fullmatch(self.text, self.place):
+                    _check_letters(self.text, start, self.place)
+                    return value
+            self.place = start
+            self._read_on()
+
+
 def _check_depth(value: Any, depth: int) -> None:
     level = [value] if isinstance(value, (dict, list)) else []
     while level:
@@ -140,9 +192,14 @@ def text_of(data: bytes) -> str:
         text = data.decode("utf-8")
     except UnicodeDecodeError:
         raise NotTaken("it is no UTF-8") from None
-    if _HALF_LETTER.search(text) and _has_half_letters(text):
-        raise NotTaken("it has half a letter")
+    _check_letters(text, 0, len(text))
     return text
+
+
+def _check_letters(text: str, start: int, end: int) -> None:
+    """Refuses halves of letters between the two places."""
+    if _HALF_LETTER.search(text, start, end) and _has_half_letters(text[start:end]):
+        raise NotTaken("it has half a letter")
 
 
 def _has_half_letters(text: str) -> bool:
@@ -184,13 +241,13 @@ def read_once(data: bytes) -> List[Tuple[int, Any]]:
     return values
 
 
-def members(text: str) -> Iterator[Tuple[Optional[str], Any]]:
-    """The members of the object that the text is, in order.
+def members(file: IO[bytes]) -> Iterator[Tuple[Optional[str], Any]]:
+    """The members of the object that the text in the file is, in order.
 
-    The items of a list `items` come one by one, behind ("items", []) and without a name, so that a long list need not
-    be in memory at once. Where the text is no object it has the one member ("", value).
+    The items of a list `items` come one by one, behind ("items", []) and without a name, and the file is read meanwhile, so that
+    a long list need not be in memory at once. Where the text is no object it has the one member ("", value).
     """
-    cursor = _Cursor(text)
+    cursor = _Stream(file)
     if not cursor.takes("{"):
         yield "", cursor.value(0)
     else:

@@ -142,7 +142,7 @@ class Manifests:
             spool.close()
             self._places = spool.places()
             with self._room.create("list") as file:
-                write_list(file, [spool])
+                write_list(file, spool.lines())
 
 
 def _opened(item: Any) -> Iterator[Any]:

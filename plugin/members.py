@@ -8,17 +8,19 @@ docs/use/TABLES.md says which members these are.
   some.
 - A value that has not the type that its shape says stays as it is, and so does null: what it is is np's to say.
 - The specs of policies stay whole. They are small, and a selector is refused for a member that it does not have.
-- ReplicaSets of former rollouts go (`rollouts`).
+- ReplicaSets of former rollouts go (`rollouts`), and of a list that is too large pods that are like two others (`thinning`).
 - What np refuses as no JSON stays as it is.
 """
 from __future__ import annotations
 
-from typing import IO, Any, Dict, Iterator, List, Optional, Tuple
+import shutil
+from typing import IO, Any, Dict, Iterable, Iterator, List, Tuple
 
 from plugin import jsontext
 from plugin.caveats.beside import Beside
 from plugin.rollouts import Rollouts
 from plugin.room import Room
+from plugin.snapshot import MOST, MOST_ITEMS
 
 # What is kept of a value: True keeps all of it; an object keeps of an object the members that it names, each by the
 # shape that it has there; a list keeps all items of a list, each by the one shape in it.
@@ -89,7 +91,7 @@ def kept(item: Any) -> Any:
 class Spool:
     """Takes items one by one, and holds what is kept of them in a file, a line each."""
 
-    def __init__(self, room: Room, name: str, rollouts: Rollouts, beside: Optional[Beside] = None) -> None:
+    def __init__(self, room: Room, name: str, rollouts: Rollouts, beside: Beside) -> None:
         self._path = room.path(name)
         self._rollouts = rollouts
         self._beside = beside
@@ -100,8 +102,7 @@ class Spool:
     def add(self, item: Any) -> None:
         """Takes the next item."""
         place = self._rollouts.see(item)
-        if self._beside is not None:
-            self._beside.see(item)
+        self._beside.see(item)
         if place is not None:
             self._leftovers[self._count] = place
         self._file.write(jsontext.write(kept(item)) + b"\n")
@@ -128,29 +129,38 @@ class Spool:
         return place is None or self._rollouts.is_needed(place)
 
 
-def write_list(file: IO[bytes], spools: List[Spool]) -> None:
-    """Writes the items of the spools as one list."""
+def write_list(file: IO[bytes], lines: Iterable[bytes]) -> int:
+    """Writes the items as one list; returns how many they are."""
+    count = 0
     file.write(b'{"apiVersion":"v1","items":[')
-    comma = b""
-    for spool in spools:
-        for line in spool.lines():
-            file.write(comma + line)
-            comma = b","
+    for line in lines:
+        file.write(b"," + line if count else line)
+        count += 1
     file.write(b'],"kind":"List"}\n')
+    return count
 
 
-def keep_of_text(data: bytes, file: IO[bytes], room: Room, beside: Optional[Beside] = None) -> None:
+def write_within_limits(file: IO[bytes], spools: List[Spool], room: Room, beside: Beside) -> None:
+    """Writes the items of the spools as one list, thinned where np would refuse it for its size."""
+    count = write_list(file, (line for spool in spools for line in spool.lines()))
+    if count > MOST_ITEMS or file.tell() > MOST:
+        from plugin import thinning
+        thinning.thin(file, spools, room, beside)
+
+
+def keep_of_text(text: IO[bytes], file: IO[bytes], room: Room, beside: Beside) -> None:
     """Writes to the file what is kept of a text: of a list that of its items, of anything else that of the one object
     that it is. Where np would refuse the text as no JSON all of it is written, and np says so."""
     try:
-        _keep_of_text(jsontext.text_of(data), file, room, beside)
+        _keep_of_text(text, file, room, beside)
     except jsontext.NotTaken:
+        text.seek(0)
         file.seek(0)
         file.truncate()
-        file.write(data)
+        shutil.copyfileobj(text, file)
 
 
-def _keep_of_text(text: str, file: IO[bytes], room: Room, beside: Optional[Beside]) -> None:
+def _keep_of_text(text: IO[bytes], file: IO[bytes], room: Room, beside: Beside) -> None:
     whole: Dict[str, Any] = {}
     spool = Spool(room, "items", Rollouts(), beside)
     for name, value in jsontext.members(text):
@@ -165,8 +175,9 @@ def _keep_of_text(text: str, file: IO[bytes], room: Room, beside: Optional[Besid
                 spool = Spool(room, "items", Rollouts(), beside)  # of a member that stands twice the last counts
     spool.close()
     if (whole.get("apiVersion"), whole.get("kind")) != ("v1", "List"):
-        file.write(jsontext.write(kept(jsontext.read(text.encode("utf-8")))) + b"\n")
+        text.seek(0)
+        file.write(jsontext.write(kept(jsontext.read(text.read()))) + b"\n")
     elif isinstance(whole.get("items"), list):
-        write_list(file, [spool])
+        write_within_limits(file, [spool], room, beside)
     else:
         file.write(jsontext.write(_kept(whole, _members("apiVersion kind items"))) + b"\n")

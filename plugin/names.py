@@ -6,7 +6,9 @@ import re
 from pathlib import Path
 from typing import Any, Iterator, List
 
-from plugin import children
+from plugin import children, left_out
+from plugin.left_out import LeftOut
+from plugin.objects import type_of
 from plugin.program import Program
 from plugin.said import Stop, decoded, encoded, stop
 
@@ -40,11 +42,12 @@ def workloads(program: Program, path: Path) -> List[str]:
     return [decoded(name) for name in names]
 
 
-def pods(path: Path) -> List[str]:
-    """The pods of the list in the file that `evaluate` takes: those with a network of their own that are not
-    finished."""
-    return ["%s/%s" % (item["metadata"].get("namespace") or "default", item["metadata"].get("name"))
-            for item in _objects(path) if _is_pod(item)]
+def pods(path: Path, left: LeftOut) -> List[str]:
+    """The pods of the list in the file, and of those that were left out of it, that `evaluate` takes: those with a network of
+    their own that are not finished."""
+    ends = {left_out.name_of(item): left_out.is_end(item) for item in _objects(path) if type_of(item) == ("v1", "Pod")}
+    found = left.merged(list(ends.items()), lambda pod: (pod.name, ends[pod.like]))
+    return [name for name, is_end in found if is_end]
 
 
 def _objects(path: Path) -> Iterator[Any]:
@@ -53,15 +56,6 @@ def _objects(path: Path) -> Iterator[Any]:
         return iter(jsontext.objects(path.read_bytes()))
     except jsontext.NotTaken:
         return iter([])
-
-
-def _is_pod(item: Any) -> bool:
-    if not isinstance(item, dict) or (item.get("apiVersion"), item.get("kind")) != ("v1", "Pod"):
-        return False
-    spec, status = item.get("spec"), item.get("status")
-    on_host = isinstance(spec, dict) and spec.get("hostNetwork") is True
-    phase = status.get("phase") if isinstance(status, dict) else None
-    return isinstance(item.get("metadata"), dict) and not on_host and phase not in ("Succeeded", "Failed")
 
 
 def keep(kind: str, names: bytes) -> None:

@@ -72,12 +72,12 @@ def _is_list_of(is_right: Any, value: Any) -> bool:
 
 def _is_metadata(metadata: Any) -> bool:
     namespace = metadata.get("namespace")
-    return (_is_name(metadata.get("name")) and (namespace in (None, "") or _is_name(namespace))
+    return (is_name(metadata.get("name")) and (namespace in (None, "") or is_name(namespace))
             and _is_missing_or(lambda owners: _is_list_of(_is_owner, owners), metadata.get("ownerReferences")))
 
 
 def _is_owner(owner: Any) -> bool:
-    return (type(owner) is dict and _is_name(owner.get("kind")) and _is_name(owner.get("name"))
+    return (type(owner) is dict and is_name(owner.get("kind")) and is_name(owner.get("name"))
             and _is_missing_or(_is_truth, owner.get("controller")))
 
 
@@ -91,7 +91,7 @@ def _is_template_metadata(metadata: Any) -> bool:
 
 
 def _is_labels(labels: Any) -> bool:
-    return type(labels) is dict and "" not in labels and all(map(_is_word, _keys_and_values(labels)))
+    return type(labels) is dict and "" not in labels and all(map(is_word, _keys_and_values(labels)))
 
 
 def _keys_and_values(labels: Any) -> List[Any]:
@@ -111,16 +111,18 @@ def _is_port(port: Any) -> bool:
     if type(port) is not dict or type(port.get("containerPort")) is not int:
         return False
     return (1 <= port["containerPort"] <= 65535 and port.get("protocol") in (None, "TCP", "UDP", "SCTP")
-            and _is_missing_or(_is_word, port.get("name")))
+            and _is_missing_or(is_word, port.get("name")))
 
 
 def _is_truth(value: Any) -> bool:
     return type(value) is bool
 
 
-def _is_name(value: Any) -> bool:
+def is_name(value: Any) -> bool:
+    """Whether np takes the value as a name."""
     return isinstance(value, str) and bool(_NAME.fullmatch(value))
 
 
-def _is_word(value: Any) -> bool:
+def is_word(value: Any) -> bool:
+    """Whether np takes the value as that of a label."""
     return isinstance(value, str) and bool(_WORD.fullmatch(value))

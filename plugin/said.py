@@ -4,7 +4,7 @@ from __future__ import annotations
 import os
 import re
 import sys
-from typing import Callable, List, NoReturn, Optional
+from typing import Callable, List, Mapping, NoReturn, Optional
 
 # What would end a line, move the cursor or turn around the letters that follow, wherever a name has it.
 _CONTROL = re.compile("[\x00-\x1f\x7f-\x9f\u2028\u2029\u202a-\u202e\u2066-\u2069]")
@@ -18,6 +18,10 @@ speaker = "kubectl np"
 name_item: Optional[Callable[[int], Optional[str]]] = None
 names_items_of_notes = False
 _ITEMS = re.compile(rb"^(error|note): items? ([0-9]{1,9})(?: and ([0-9]{1,9}))?: ", re.MULTILINE)
+
+# How many pods np was not given, by the note of np that counts such pods: the note is repeated with all of them.
+not_given: Mapping[str, int] = {}
+_COUNTS = re.compile(rb"^(note: ([^:\n]*): )([0-9]+)$", re.MULTILINE)
 
 # Whether notes are left out.
 is_quiet = False
@@ -102,6 +106,7 @@ def relay(data: bytes, label: str = "") -> None:
     """Repeats on standard error what another program said there, line by line, each behind the label. Where np names an
     item of the list by its number, it is said which object that is."""
     global fault
+    data = with_all_pods(data)
     lines = _CONTROL_IN_LINES.sub(_escape, decoded(data)).splitlines(keepends=True)
     _write_error(encoded("".join(label + line for line in lines)))
     fault = "".join(name.decode() for name in _FAULT.findall(data)[:1]) or fault
@@ -109,6 +114,13 @@ def relay(data: bytes, label: str = "") -> None:
         name = name_item(number) if name_item is not None else None
         if name is not None:
             say("item %d is %s" % (number, name))
+
+
+def with_all_pods(data: bytes) -> bytes:
+    """What np said, with the counts of all pods in its notes, also of those that it was not given."""
+    if not not_given:
+        return data
+    return _COUNTS.sub(lambda found: b"%s%d" % (found.group(1), int(found.group(3)) + not_given.get(found.group(2).decode(), 0)), data)
 
 
 def _items_of(data: bytes) -> List[int]:

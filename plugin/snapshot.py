@@ -3,14 +3,15 @@ from __future__ import annotations
 
 import os
 from pathlib import Path
-from typing import IO, Iterator, Optional
+from typing import Iterator, Optional
 
 from plugin.caveats.beside import Beside
 from plugin.room import Room
 from plugin.said import say, step, stop, write
 
-# How many bytes np reads.
+# How many bytes np reads, and how many objects.
 MOST = 33554432
+MOST_ITEMS = 20000
 _CHUNK = 1 << 20
 
 
@@ -18,23 +19,43 @@ def fetch_file(name: str, room: Room, beside: Beside) -> Path:
     """The path of the list that --list names. It stays as it is, so that the numbers of items in faults are those of
     the file; where it is no file, or is too large for np, it is a copy in the room."""
     path = Path(os.path.abspath(name))
-    if name != "-" and path.is_file() and path.stat().st_size <= MOST and os.access(path, os.R_OK):
+    if name == "-" or not path.is_file() or not os.access(path, os.R_OK):
+        path = _copy(name, room)
+    excess = _excess(path)
+    if not excess:
         return path
-    with room.writing(), room.create("list") as file:
-        _copy(name, file)
-    if room.path("list").stat().st_size > MOST:
-        say("the list has more than %d bytes, so only what np reads is kept of it" % MOST)
-        filter_file(str(room.path("list")), room, beside)
-    return room.path("list")
+    say("the list has more than %s, so only what np reads is kept of it" % excess)
+    return filter_file(path, room, beside)
 
 
-def filter_file(name: str, room: Room, beside: Optional[Beside] = None) -> None:
-    """Writes what np reads of the list in the file (- for standard input) into the file `list` of the room."""
+def _excess(path: Path) -> str:
+    """What the list in the file has more of than np takes; empty where np takes it. Each object has metadata, and few have more
+    in them, so hardly a list is read for that."""
+    if path.stat().st_size > MOST:
+        return "%d bytes" % MOST
+    data = path.read_bytes()
+    if data.count(b'"metadata"') <= MOST_ITEMS:
+        return ""
+    from plugin import jsontext
+    try:
+        count = len(jsontext.objects(data))
+    except jsontext.NotTaken:
+        return ""
+    return "%d objects" % MOST_ITEMS if count > MOST_ITEMS else ""
+
+
+def filter_input(room: Room, beside: Beside) -> Path:
+    """The path of a list in the room with what np reads of the list on standard input."""
+    return filter_file(_copy("-", room), room, beside)
+
+
+def filter_file(path: Path, room: Room, beside: Beside) -> Path:
+    """The path of a list in the room with what np reads of the list in the file."""
     from plugin.members import keep_of_text
     step("keeping what np reads")
-    data = b"".join(_chunks(name))
-    with room.writing(), room.create("list") as file:
-        keep_of_text(data, file, room, beside)
+    with path.open("rb") as text, room.writing(), room.create("list") as file:
+        keep_of_text(text, file, room, beside)
+    return room.path("list")
 
 
 def name_item(path: Path, number: int) -> Optional[str]:
@@ -47,11 +68,14 @@ def name_item(path: Path, number: int) -> Optional[str]:
     return objects.named(items[number - 1]) if number <= len(items) else None
 
 
-def _copy(name: str, to: IO[bytes]) -> None:
+def _copy(name: str, room: Room) -> Path:
+    """The path of a copy of the file, or of standard input, in the room."""
     if name != "-" and Path(name).is_dir():
         stop(3, "'%s' is a folder" % name)
-    for chunk in _chunks(name):
-        to.write(chunk)
+    with room.writing(), room.create("given") as file:
+        for chunk in _chunks(name):
+            file.write(chunk)
+    return room.path("given")
 
 
 def _chunks(name: str) -> Iterator[bytes]:

@@ -177,6 +177,16 @@ def _take_bare_word(words: Words, word: str) -> None:
         words.own.append(word)
 
 
+def option(own: List[str], name: str) -> str:
+    """The value of an option of np's command; empty where it is not given."""
+    for place, word in enumerate(own):
+        if word == name:
+            return own[place + 1] if place + 1 < len(own) else ""
+        if word.startswith(name + "="):
+            return word[len(name) + 1:]
+    return ""
+
+
 def check_sources(words: Words) -> None:
     """Refuses words that do not go together."""
     if words.command == "changes":

@@ -11,11 +11,12 @@ from pathlib import Path
 
 sys.path.insert(0, str(Path(__file__).resolve().parent.parent / "kubectl-np"))
 
+from plugin.caveats.beside import Beside  # noqa: E402
 from plugin.members import keep_of_text  # noqa: E402
 from plugin.room import Room  # noqa: E402
 
 with Room() as room:
     for name in sys.argv[1:]:
         kept = io.BytesIO()
-        keep_of_text(Path(name).read_bytes(), kept, room)
+        keep_of_text(io.BytesIO(Path(name).read_bytes()), kept, room, Beside())
         sys.stdout.buffer.write(kept.getvalue().rstrip(b"\n").replace(b"\n", b" ") + b"\n")

@@ -19,6 +19,7 @@ check      the rows of `list` hold as statements, and so does that nothing else 
 explain    what both sides allow is the row, and each end of each range is what `evaluate` says
 formats    text, CSV and JSON, and both reports, say the same
 focus      a focus keeps the rows of its workload
+thinned    without the pods that the plugin leaves out of a list that is too large, all answers stay, but those about a pod by its name
 
 --wrong tries each relation on answers that were spoilt on purpose, and ends with status 1 where one does not notice.
 """
@@ -33,6 +34,7 @@ import sys
 sys.path.insert(0, os.path.join(os.path.dirname(os.path.abspath(__file__)), "relations"))
 import answers  # noqa: E402
 import lists  # noqa: E402
+import replicas  # noqa: E402
 from answers import Broken, connections, demand, row, runs_of, union, written  # noqa: E402
 
 CONTROLLER = "{ingress-controller}"
@@ -200,7 +202,30 @@ def focus(np, items, rng):
         demand(np.rows(["list", "--focus", name, "--side", side], items) == wanted, "the focus %s loses a row" % side)
 
 
-RELATIONS = [order, files, twice, renamed, bystander, newcomer, flat, unused, check, explain, formats, focus]
+def thinned(np, items, rng):
+    many = replicas.with_replicas(items, rng)
+    few = replicas.Thinned(many).items
+    names = workloads(np, many)
+    ends = ["any pod", "any address", "namespace nsone", *("workload " + name for name in names)]
+    asked = [[command] for command in ("list", "exposure", "unused", "flatten")]
+    if names:
+        asked += [["explain", "--from", rng.choice(names), "--to", rng.choice(names)] for _ in range(3)]
+    for words in asked:
+        one, other = np.run(words, many), np.run(words, few)
+        demand(one == other, "%s differs after pods were left out" % " ".join(words))
+    for _ in range(3):
+        line = "%s %s => %s : %s" % (rng.choice(["allow", "deny"]), rng.choice(ends), rng.choice(ends[:1] + ends[2:]), "TCP 80-8080")
+        one, other = (np.run(["check"], each, statements=[line]) for each in (many, few))
+        demand(one == other, "check says of %s, after pods were left out, %s and not %s" % (line, other, one))
+
+
+def workloads(np, items):
+    """The workloads of a list, by the rows of the first addresses."""
+    rows = [row(line) for line in np.rows(["list", "--report", "1"], items)]
+    return [destination for source, destination, _ in rows if source.startswith("0.0.0.0")]
+
+
+RELATIONS = [order, files, twice, renamed, bystander, newcomer, flat, unused, check, explain, formats, focus, thinned]
 
 
 def spoil(words, parts, lines):

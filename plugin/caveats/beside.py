@@ -1,9 +1,10 @@
-"""What np does not read of objects, and caveats need: it is looked at before the filter drops it."""
+"""What np is not given of objects, and caveats need: it is looked at before the filter drops it."""
 from __future__ import annotations
 
-from typing import Any, Dict, FrozenSet, Iterable, List, NamedTuple, Tuple
+from typing import Any, Dict, FrozenSet, Iterable, List, NamedTuple, Optional, Tuple
 
 from plugin import values
+from plugin.left_out import LeftOut
 
 # The type of an object, its namespace and its name.
 Place = Tuple[str, str, str]
@@ -32,9 +33,11 @@ class UnknownLabel(NamedTuple):
 class Beside:
     """What is known of objects beside their list. Objects are seen from several threads, each of another kind."""
 
-    def __init__(self) -> None:
+    def __init__(self, left: Optional[LeftOut] = None) -> None:
+        self.left_out = left or LeftOut()
         self.unknown_labels: List[UnknownLabel] = []
         self._sidecars: Dict[Place, FrozenSet[Port]] = {}
+        self._equal: Dict[FrozenSet[Port], FrozenSet[Port]] = {}  # one for all that are equal, since there may be very many
 
     def see(self, item: Any) -> None:
         """Takes an object as it was before the filter."""
@@ -50,7 +53,7 @@ class Beside:
     def _see_containers(self, item: Dict[str, Any], containers: List[Dict[str, Any]]) -> None:
         ports = ports_of([each for each in containers if each.get("restartPolicy") == "Always"])
         if ports:
-            self._sidecars[_place(item)] = ports
+            self._sidecars[_place(item)] = self._equal.setdefault(ports, ports)
 
 
 def _place(item: Dict[str, Any]) -> Place:

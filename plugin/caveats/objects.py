@@ -6,6 +6,7 @@ with one for each controller that has none.
 from __future__ import annotations
 
 import json
+from functools import cached_property
 from pathlib import Path
 from typing import Any, Dict, FrozenSet, Iterator, List, NamedTuple, Optional, Tuple
 
@@ -13,6 +14,7 @@ from plugin import values
 from plugin.caveats.beside import Beside, Port, pod_spec, ports_of
 from plugin.caveats.caveat import Ends, place_of
 from plugin.caveats.owners import Item, Owners, type_of, workload
+from plugin.left_out import LeftOutPod, addresses_of, name_of
 from plugin.selectors import Selector
 
 NAME_LABEL = "kubernetes.io/metadata.name"
@@ -54,8 +56,8 @@ class Listed:
         for item in items:
             self.by_type.setdefault(type_of(item), []).append(item)
             beside.see(item)
-        self.addresses: List[Address] = []
-        self.workload_of: Dict[str, str] = {}  # by the namespace and name of each pod
+        self._addresses: List[List[Address]] = []  # of each pod that is listed
+        self._named: Dict[str, Pods] = {}  # by the namespace and name of each pod
         self.empty_controllers: List[Item] = []  # those that no pod belongs to
         self.known_namespaces = {values.name_of(item): values.labels(values.members(item.get("metadata")).get("labels"))
                                  for item in self.by_type.get(("v1", "Namespace"), [])}
@@ -70,6 +72,19 @@ class Listed:
                 self._by_label.setdefault(label, {}).setdefault(pods.namespace, []).append(pods)
         self._met: Dict[Selection, List[Pods]] = {}
         self._namespaces_met: Dict[Selector, FrozenSet[str]] = {}
+
+    @cached_property
+    def addresses(self) -> List[Address]:
+        """The addresses of the pods, also of those that np is not given since there are so many."""
+        return [address for found in self._beside.left_out.merged(self._addresses, self._addresses_left_out) for address in found]
+
+    def _addresses_left_out(self, pod: LeftOutPod) -> List[Address]:
+        like = self._named.get(pod.like)
+        return [Address(text, pod.name, like) for text in pod.addresses] if like is not None else []
+
+    def workload_of(self, pod: str) -> str:
+        """The workload of the pod of this namespace and name; empty where there is none."""
+        return self._named[pod].workload if pod in self._named else ""
 
     def of_type(self, version: str, kind: str) -> List[Item]:
         """The objects of a type."""
@@ -130,8 +145,7 @@ class Listed:
             workload = owners.workload_of(item)
             is_finished = values.members(item.get("status")).get("phase") in ("Succeeded", "Failed")
             pods = self._group(item, workload, values.members(item.get("metadata")), is_finished)
-            if pods is not None:
-                self._read_addresses(item, pods)
+            self._addresses.append([] if pods is None else _addresses(item, pods))
         for item in owners.without_pods():
             self._read_template(item)
 
@@ -154,15 +168,13 @@ class Listed:
         if is_left_out or spec.get("hostNetwork") is True:
             self._left_out.setdefault(key, pods)
             return None
-        self.workload_of.setdefault("%s/%s" % (pods.namespace, values.name_of(item)), workload)
-        return self._groups.setdefault(key, pods)
+        found = self._groups.setdefault(key, pods)
+        self._named.setdefault(name_of(item), found)
+        return found
 
-    def _read_addresses(self, item: Item, pods: Pods) -> None:
-        status, name = values.members(item.get("status")), "%s/%s" % (pods.namespace, values.name_of(item))
-        listed = [values.text(each.get("ip")) for each in values.objects(status.get("podIPs"))]
-        for text in dict.fromkeys([values.text(status.get("podIP")), *listed]):
-            if text:
-                self.addresses.append(Address(text, name, pods))
+
+def _addresses(item: Item, pods: Pods) -> List[Address]:
+    return [Address(text, name_of(item), pods) for text in addresses_of(item)]
 
 
 def read(path: Path, beside: Beside) -> Listed:

@@ -6,23 +6,13 @@ from typing import TYPE_CHECKING, Dict, Iterable, List, Optional
 from plugin.caveats.caveat import ANY_POD, ANYONE, CONTROLLER, Caveat, Ends, Pair
 from plugin.caveats.whole import Caveats
 from plugin.said import stop
+from plugin.words import Words, option
 
 if TYPE_CHECKING:
     from plugin.caveats.objects import Address
     from plugin.program import Program
-    from plugin.words import Words
 
 _ENDS = ("--from", "--to")
-
-
-def option(own: List[str], name: str) -> str:
-    """The value of an option of np's command; empty where it is not given."""
-    for place, word in enumerate(own):
-        if word == name:
-            return own[place + 1] if place + 1 < len(own) else ""
-        if word.startswith(name + "="):
-            return word[len(name) + 1:]
-    return ""
 
 
 def bearing(words: Words, caveats: Caveats) -> List[Caveat]:
@@ -87,7 +77,7 @@ def _end(words: Words, caveats: Caveats, word: str) -> Ends:
     if "/" not in word:
         return ANYONE
     from plugin.caveats.statements import ends_of_workload
-    return ends_of_workload(caveats.listed.workload_of.get(word, "") if words.command == "evaluate" else word)
+    return ends_of_workload(caveats.listed.workload_of(word) if words.command == "evaluate" else word)
 
 
 def refuse_addresses(words: Words, caveats: Caveats, program: Program) -> None:

@@ -122,6 +122,7 @@ class Objects:
     def __init__(self, side: Side, room: Room) -> None:
         self.side = side
         self._manifests: Optional[Manifests] = None
+        self._beside = Beside()
         said.speaker = "%s: %s" % (_SPEAKER, side.label)
         if side.remark:
             say(side.remark)
@@ -131,23 +132,23 @@ class Objects:
     def _fetch(self, room: Room) -> Path:
         words = self.side.words
         if words.list_file:
-            return snapshot.fetch_file(words.list_file, room, Beside())
+            return snapshot.fetch_file(words.list_file, room, self._beside)
         if words.has_manifests:
-            self._manifests = Manifests(words, room, Beside())
+            self._manifests = Manifests(words, room, self._beside)
             self._manifests.fetch()
         else:
             from plugin import cluster
-            cluster.fetch(words, room, Beside())
+            cluster.fetch(words, room, self._beside)
         return room.path("list")
 
     def relay(self, text: bytes) -> None:
         """Repeats what np said of the objects, each line behind the label, and says of which objects."""
-        said.speaker, said.name_item = "%s: %s" % (_SPEAKER, self.side.label), self._name_item
+        said.speaker, said.name_item, said.not_given = "%s: %s" % (_SPEAKER, self.side.label), self._name_item, self._beside.left_out.counts
         relay(text, self.side.label + ": ")
         refused = _FOREIGN_POLICY.search(decoded(text))
         if refused and self._manifests is not None:
             self._manifests.tell_foreign(int(refused.group(1)))
-        said.speaker, said.name_item = _SPEAKER, None
+        said.speaker, said.name_item, said.not_given = _SPEAKER, None, {}
 
     def _name_item(self, number: int) -> Optional[str]:
         return snapshot.name_item(self.path, number) if self._manifests is None else self._manifests.name(number)

@@ -3,7 +3,9 @@ from __future__ import annotations
 
 import ipaddress
 import re
-from typing import Iterable, Iterator, List, Union
+from typing import Any, Iterable, Iterator, List, Union
+
+from plugin import values
 
 Network = Union[ipaddress.IPv4Network, ipaddress.IPv6Network]
 
@@ -18,6 +20,16 @@ def read(text: str) -> Network:
     dropped."""
     address, slash, length = text.partition("/")
     return ipaddress.ip_network((_LEADING_ZEROS.sub("", address) if "." in address else address) + slash + length, strict=False)
+
+
+def of_networks(value: Any) -> Iterator[str]:
+    """The blocks of the `networks` peers in an admin policy."""
+    if isinstance(value, list):
+        for inner in value:
+            yield from of_networks(inner)
+    elif isinstance(value, dict):
+        for name, inner in value.items():
+            yield from values.texts(inner) if name == "networks" else of_networks(inner)
 
 
 def outside_of(texts: Iterable[str]) -> List[str]:

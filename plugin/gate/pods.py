@@ -16,6 +16,7 @@ from plugin.caveats.beside import pod_spec
 from plugin.caveats.owners import Item, Owners, workload
 from plugin.gate import blocks
 from plugin.gate.workloads import NoWorkload, Workloads
+from plugin.left_out import addresses_of
 from plugin.objects import type_of
 from plugin.selectors import Selector, selector, selector_of_labels
 
@@ -121,7 +122,7 @@ class ListedPods:
     @cached_property
     def _blocks(self) -> List[Any]:
         """The blocks of the `networks` peers of admin policies."""
-        texts = {text for item in self.items if type_of(item) in kinds.POLICY_TYPES for text in _networks(item.get("spec"))}
+        texts = {text for item in self.items if type_of(item) in kinds.POLICY_TYPES for text in blocks.of_networks(item.get("spec"))}
         return [blocks.read(text) for text in sorted(texts)]
 
 
@@ -130,10 +131,8 @@ def _is_finished(pod: Item) -> bool:
 
 
 def _pod(place: int, item: Item, owner: str) -> Pod:
-    status = values.members(item.get("status"))
-    texts = [values.text(status.get("podIP")), *(values.text(each.get("ip")) for each in values.objects(status.get("podIPs")))]
     labels = values.labels(values.members(item.get("metadata")).get("labels"))
-    return Pod(place, values.namespace_of(item), owner, labels, tuple(dict.fromkeys(filter(None, texts))), _ports(item))
+    return Pod(place, values.namespace_of(item), owner, labels, tuple(addresses_of(item)), _ports(item))
 
 
 def _made_pod(place: int, item: Item) -> Pod:
@@ -189,12 +188,3 @@ def _inner_selectors(value: Any) -> Iterator[Selector]:
                 yield selector(inner)
             else:
                 yield from _inner_selectors(inner)
-
-
-def _networks(value: Any) -> Iterator[str]:
-    if isinstance(value, list):
-        for inner in value:
-            yield from _networks(inner)
-    elif isinstance(value, dict):
-        for name, inner in value.items():
-            yield from values.texts(inner) if name == "networks" else _networks(inner)

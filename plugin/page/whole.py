@@ -74,7 +74,7 @@ def _data(program: Program, room: Room, request: Request) -> bytes:
     commands = [quoted(text) for command in request.commands for text in command]
     return b"".join([
         b'{"version":1,"title":[', quoted(request.title), b'],"commands":[', b",".join(commands),
-        b'],"notes":', listed_lines(after.notes + b"".join(encoded(line + "\n") for line in request.caveats)),
+        b'],"notes":', listed_lines(said.with_all_pods(after.notes) + b"".join(encoded(line + "\n") for line in request.caveats)),
         b',"unused":', listed_lines(after.ask("unused")),
         b',"refused":', listed_lines(after.refused),
         b',"explained":', listed_lines(after.explained(table.asked.ends())),
@@ -84,7 +84,7 @@ def _data(program: Program, room: Room, request: Request) -> bytes:
 def _before(program: Program, room: Room, request: Request) -> bytes:
     """The table of the earlier snapshot. What np says of an item of it is not of the list that is shown, whose items alone
     have names: where np refuses it they stay without."""
-    name, said.name_item = said.name_item, None
+    of_list, said.name_item, said.not_given = (said.name_item, said.not_given), None, {}
     table = Answers(program, room, request.before, request.controller).table(request.only).json()
-    said.name_item = name
+    said.name_item, said.not_given = of_list
     return table
