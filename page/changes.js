@@ -138,15 +138,11 @@ function changeCounts(changes) {
 
 function changesOfSort(app, sort, changes) {
     if (!changes.length) return null;
-    const head = ['', 'From', 'To', 'Before', 'After'].map(text => element('th', { scope: 'col' }, text));
     return element('div', {},
         element('h3', {}, CHANGE_WORDS[sort] + ' (' + count(changes.length, 'line', 'lines') + ')'),
-        element('table', { class: 'rows-table', 'aria-label': CHANGE_WORDS[sort] }, element('thead', {}, element('tr', {}, ...head)),
+        element('table', { class: 'rows-table', 'aria-label': CHANGE_WORDS[sort] }, rowsHead(['', 'From', 'To', 'Before', 'After']),
             element('tbody', {}, ...changes.slice(0, app.listed).map(change => changeRow(app, change)))),
-        changes.length > app.listed && element('button', { type: 'button', class: 'more', click: () => {
-            app.listed += LIST_PART * 5;
-            app.draw();
-        } }, 'Show more'));
+        changes.length > app.listed && moreButton(app));
 }
 
 // A change of two workloads, or of a range, opens the row as it is now.

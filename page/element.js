@@ -8,7 +8,7 @@ function fill(made, attributes, children) {
         else if (value !== false && value !== undefined && value !== null) made.setAttribute(name, value);
     }
     for (const child of children) {
-        if (child !== null && child !== undefined && child !== false) made.append(child);
+        if (child !== null && child !== undefined && child !== false && child !== 0) made.append(child);
     }
     return made;
 }
@@ -60,3 +60,5 @@ function copyButton(label, text) {
     const copy = event => copyText(typeof text === 'function' ? text() : text, event.currentTarget);
     return element('button', { type: 'button', class: 'copy', click: copy }, label);
 }
+
+function rowsHead(names) { return element('thead', {}, element('tr', {}, ...names.map(name => element('th', { scope: 'col' }, name)))); }

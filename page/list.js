@@ -19,7 +19,6 @@ function listSection(app) {
         + (joined && taken.total !== taken.lines ? ', which are ' + count(taken.total, 'row', 'rows') + ' of np' : '')
         + (taken.rows.length < taken.lines ? '; the first ' + taken.rows.length.toLocaleString('en') + ' are shown' : '');
     const copyLabel = taken.total > MOST_CSV ? 'Copy the first ' + count(MOST_CSV, 'row', 'rows') + ' as CSV' : 'Copy as CSV';
-    const head = ['', 'From', 'To', 'Connections'].map(text => element('th', { scope: 'col' }, text));
     return element('section', { class: 'list', 'aria-label': 'List of rows' },
         element('div', { class: 'bar' },
             element('h2', {}, 'Rows'),
@@ -27,14 +26,25 @@ function listSection(app) {
             copyButton(copyLabel, () => listCsv(app))),
         app.table.only && element('p', { class: 'hint' },
             'This page has the rows with an end in the namespace ' + app.table.only + ' alone.'),
+        ...isReach(filter) ? unknownPart() : [],
         element('table', { class: 'rows-table', 'aria-label': 'Rows' },
-            element('thead', {}, element('tr', {}, ...head)),
+            rowsHead(['', 'From', 'To', 'Connections']),
             element('tbody', {}, ...taken.rows.map(row => listRow(app, row)))),
         !taken.lines && element('p', { class: 'hint' }, 'No row is kept by the filter.'),
-        taken.rows.length < taken.lines && element('button', { type: 'button', class: 'more', click: () => {
-            app.listed += LIST_PART * 5;
-            app.draw();
-        } }, 'Show ' + Math.min(LIST_PART * 5, taken.lines - taken.rows.length).toLocaleString('en') + ' more'));
+        taken.rows.length < taken.lines && moreButton(app));
+}
+
+function moreButton(app) {
+    return element('button', { type: 'button', class: 'more', click: () => { app.listed += LIST_PART * 5; app.draw(); } }, 'Show more');
+}
+
+function isReach(filter) { return filter.sort === SORTS.reach; }
+
+// Behind what is reached: the workloads of which that is not known.
+function unknownPart() {
+    const caveats = unknownReached();
+    return caveats.length ? [element('p', { class: 'hint' }, 'Ingresses lead to these too, but who the Ingress controller is was not said '
+        + '(--controller NAME), so it is not known whether it is let in:'), caveatLines(caveats)] : [];
 }
 
 // The ends that a row opens: of a group its first workload, and its second where both ends are the group.

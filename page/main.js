@@ -10,54 +10,10 @@ const VIEWS = [
     { name: 'changes', label: 'Changes', sections: [changesSection], beside: [], needs: app => app.before },
     { name: 'exposure', label: 'New pods', sections: [exposureSection], beside: [] },
     { name: 'unused', label: 'Unused rules', sections: [unusedSection], beside: [] },
+    { name: 'caveats', label: 'Caveats', sections: [caveatsSection], beside: [], needs: () => page.caveats.length },
 ];
 
-// ---- What new pods would reach, and the rules that decide nothing
-
-function exposureSection() {
-    const { table, state } = app;
-    const filter = makeFilter(state);
-    if (app.refused) {
-        return element('section', { class: 'exposure' },
-            element('h2', {}, 'New pods'),
-            element('p', { class: 'hint' }, app.refused));
-    }
-    const rows = [];
-    table.names.forEach((name, workload) => {
-        if (filter.namespace && table.namespaces[workload] !== filter.namespace || filter.focus && filter.focus !== name) return;
-        const put = (source, destination, connections) => {
-            const kept = keepsText(filter, connections, filter.bits(source) | filter.bits(destination));
-            if (kept) rows.push({ source, destination, connections });
-        };
-        for (const row of exposureRows(table, workload, 0)) put(row.end, name, row.text);
-        for (const row of exposureRows(table, workload, 1)) put(name, row.end, row.text);
-    });
-    const texts = row => [row.source, row.destination, row.connections];
-    return element('section', { class: 'exposure', 'aria-label': 'New pods' },
-        element('div', { class: 'bar' },
-            element('h2', {}, 'New pods'),
-            element('span', { class: 'count', role: 'status' }, count(rows.length, 'row', 'rows')),
-            copyButton('Copy as CSV', () => csvOf(['source', 'destination', 'connections'], rows.map(texts)))),
-        element('p', { class: 'hint' },
-            'What each workload allows a pod that nobody has written yet. Of a workload and a direction, the first row whose '
-            + 'requirements the pod meets is its verdict'
-            + (state.passing ? '; rows where nothing passes are hidden by the filter, and count all the same.' : '.')),
-        element('table', { class: 'rows-table', 'aria-label': 'New pods' },
-            element('tbody', {}, ...rows.slice(0, app.listed).map(exposureRow))),
-        rows.length > app.listed && moreButton());
-}
-
-function exposureRow(row) {
-    return element('tr', {},
-        element('td', {}, levelSign(row.connections)),
-        element('td', { class: 'end' }, row.source),
-        element('td', { class: 'end' }, row.destination),
-        element('td', { class: 'connections' }, row.connections));
-}
-
-function moreButton() {
-    return element('button', { type: 'button', class: 'more', click: () => { app.listed += LIST_PART * 5; draw(); } }, 'Show more');
-}
+// ---- The rules that decide nothing
 
 function unusedSection() {
     const rules = page.unused.filter(rule => wordBits(makeFilter(app.state).words, rule) === makeFilter(app.state).full);
@@ -88,13 +44,18 @@ function fact(text, patch) {
 function facts() {
     const { table } = app;
     const namespaces = new Set(table.namespaces).size;
-    const groups = table.groups.length;
+    const groups = table.groups.length, unknown = unknownReached().length;
     return element('p', { class: 'facts' },
         fact(count(table.names.length, 'workload', 'workloads') + ' in ' + count(namespaces, 'namespace', 'namespaces')
             + (groups < table.names.length ? ', ' + count(groups, 'kind', 'kinds') + ' of equal rows' : '')),
-        fact('Reached from addresses or Ingresses: ' + count(outsideCount(), 'workload', 'workloads'), { view: 'list', sort: 'reach' }),
+        fact('Reached from addresses or Ingresses: ' + count(outsideCount(), 'workload', 'workloads')
+            + (unknown ? ', and ' + unknown + ' where it is not known' : ''), { view: 'list', sort: 'reach' }),
         fact(count(page.unused.length, 'rule decides', 'rules decide') + ' nothing', { view: 'unused' }),
-        app.before && fact(changeCounts(app.changes), { view: 'changes' }));
+        app.before && fact(changeCounts(app.changes), { view: 'changes' }),
+        page.caveats.length > 0 && fact(count(page.caveats.length, 'caveat', 'caveats'), { view: 'caveats' }),
+        page.controller && fact('Ingress controller: ' + page.controller),
+        page.source !== page.title[0] && fact(page.source),
+        fact('Made ' + page.made + ' by np ' + page.np));
 }
 
 function option(value, label) { return element('option', { value }, label); }
@@ -233,11 +194,13 @@ function pressed(event) {
 function makeApp() {
     const before = page.before && readTable(page.before);
     const table = readTable(page.table);
+    const explained = readExplained(page.explained, table.names);
     return {
         table,
         before,
         changes: before ? changesBetween(before, table) : [],
-        explained: readExplained(page.explained),
+        explained,
+        isolation: readIsolation(explained),
         refused: page.refused.length ? 'np does not show what new pods would reach here: ' + page.refused.join(' ') : '',
         listed: LIST_PART,
         state: readState(location.hash),
