@@ -61,4 +61,17 @@ function copyButton(label, text) {
     return element('button', { type: 'button', class: 'copy', click: copy }, label);
 }
 
-function rowsHead(names) { return element('thead', {}, element('tr', {}, ...names.map(name => element('th', { scope: 'col' }, name)))); }
+// The head of a table of rows, which stands on each sheet of paper anew, and there says what the page is of.
+function rowsHead(names) {
+    return element('thead', {},
+        element('tr', { class: 'running' }, element('td', { colspan: names.length }, sheetText(app))),
+        element('tr', {}, ...names.map(name => element('th', { scope: 'col' }, name || element('span', { class: 'unseen' }, 'what passes')))));
+}
+
+// A text of at most so many letters: what stands in its middle is left out, since names mostly differ at their ends.
+function cutMiddle(text, most) {
+    const letters = Array.from(text);
+    if (letters.length <= most) return text;
+    const end = Math.floor((most - 1) / 2);
+    return letters.slice(0, most - 1 - end).join('') + '…' + letters.slice(letters.length - end).join('');
+}

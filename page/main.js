@@ -236,6 +236,7 @@ function show(answered) {
     build();
     if (isFirst) {
         document.addEventListener('keydown', pressed);
+        listenForPrint();
         window.addEventListener('hashchange', () => { app.state = readState(location.hash); draw(); });
     }
     draw();

@@ -231,7 +231,7 @@ function matrixSection(app) {
         matrix.left > 0 && element('p', { class: 'hint' }, count(matrix.left, 'line is', 'lines are') + ' not shown here: '
             + 'close namespaces that are open, choose a namespace, or read the list.'),
         matrix.senders.length && matrix.receivers.length
-            ? element('div', { class: 'scroll' }, grid)
+            ? element('div', {}, element('div', { class: 'scroll' }, grid), element('div', { class: 'sheets' }))
             : element('p', { class: 'hint' }, nothing));
 }
 
