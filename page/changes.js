@@ -150,17 +150,6 @@ function changeRow(app, change) {
     const place = change.from && change.from === change.to && change.destination === 'each other' ? 1 : 0;
     const from = change.from ? change.from[0] : change.kind === 'through' ? CONTROLLER : 'addresses';
     const to = change.to ? change.to[place] : 'addresses';
-    const open = () => app.change({ from, to });
-    const attributes = {
-        tabindex: 0,
-        'data-ends': endsKey(from, to),
-        click: open,
-        keydown: event => { if (event.key === 'Enter') open(); },
-    };
-    return element('tr', attributes,
-        element('td', {}, element('span', { class: 'sign change-' + change.sort, title: change.sort }, CHANGE_SIGNS[change.sort])),
-        element('td', { class: 'end' }, change.source),
-        element('td', { class: 'end' }, change.destination),
-        element('td', { class: 'connections' }, change.before),
-        element('td', { class: 'connections' }, change.after));
+    const sign = element('span', { class: 'sign change-' + change.sort, title: change.sort }, CHANGE_SIGNS[change.sort]);
+    return openingRow(app, [from, to], [sign, change.source, change.destination, change.before, change.after]);
 }

@@ -35,8 +35,6 @@ function outsideNeighbours(table, workload) {
     };
 }
 
-function cutText(text, most) { return text.length <= most ? text : text.slice(0, most - 1) + '…'; }
-
 function graphSection(app) {
     const { table, state } = app;
     const workload = table.place.get(state.focus);
@@ -50,8 +48,9 @@ function graphSection(app) {
     }
     const near = neighbours(table, workload), outside = outsideNeighbours(table, workload);
     return element('section', { class: 'graph', 'aria-label': 'Picture of ' + state.focus },
-        element('div', { class: 'bar' }, element('h2', {}, 'One workload'), chooser),
-        element('div', { class: 'scroll' }, starDrawing(app, state.focus, near, outside)));
+        element('div', { class: 'bar' }, element('h2', {}, 'One workload'), chooser, zoomControl(app),
+            savePicture(state.focus.replace(/[^A-Za-z0-9._-]+/g, '-'))),
+        shownPicture(app, starDrawing(app, state.focus, near, outside)));
 }
 
 function focusInput(app) {
@@ -104,7 +103,7 @@ function starDrawing(app, name, near, outside) {
         drawing('g', { class: 'centre' },
             drawing('rect', { x: centre.x, y: centre.y, width: BOX.middle, height: BOX.height, rx: 6 }),
             drawing('text', { x: centre.x + BOX.middle / 2, y: centre.y + 28, 'text-anchor': 'middle' },
-                cutText(name, 36), drawing('title', {}, name))));
+                cutMiddle(name, 36), drawing('title', {}, name))));
 }
 
 function starBox(app, box, x, y) {
@@ -126,8 +125,8 @@ function starBox(app, box, x, y) {
     return drawing('g', attributes,
         drawing('title', {}, box.label + ' : ' + box.text + (box.members ? ' (double click, or f: its own picture)' : '')),
         drawing('rect', { x, y, width: BOX.width, height: BOX.height, rx: 6 }),
-        drawing('text', { x: x + 10, y: y + 19 }, cutText(box.label, 42)),
-        drawing('text', { x: x + 10, y: y + 37, class: 'passes' }, cutText(box.text, 42)));
+        drawing('text', { x: x + 10, y: y + 19 }, cutMiddle(box.label, 42)),
+        drawing('text', { x: x + 10, y: y + 37, class: 'passes' }, cutMiddle(box.text, 42)));
 }
 
 // The line of a box and its head; thick where everything passes, broken where some does.

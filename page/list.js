@@ -56,7 +56,11 @@ function endsOfRow(table, row) {
 }
 
 function listRow(app, row) {
-    const [from, to] = endsOfRow(app.table, row);
+    return openingRow(app, endsOfRow(app.table, row), [levelSign(row.connections), row.source, row.destination, row.connections]);
+}
+
+// A row of a table that opens its ends: a sign, the two ends, and texts.
+function openingRow(app, [from, to], [sign, source, destination, ...texts]) {
     const open = () => app.change({ from, to });
     return element('tr', { 'data-ends': endsKey(from, to), tabindex: 0, click: open, keydown: event => {
         if (event.key === 'Enter' || event.key === ' ') { event.preventDefault(); open(); }
@@ -65,10 +69,10 @@ function listRow(app, row) {
             if (next) { event.preventDefault(); next.focus(); }
         }
     } },
-    element('td', {}, levelSign(row.connections)),
-    element('td', { class: 'end' }, ...breakable(row.source)),
-    element('td', { class: 'end' }, ...breakable(row.destination)),
-    element('td', { class: 'connections' }, row.connections));
+    element('td', {}, sign),
+    element('td', { class: 'end' }, ...breakable(source)),
+    element('td', { class: 'end' }, ...breakable(destination)),
+    ...texts.map(text => element('td', { class: 'connections' }, text)));
 }
 
 // The rows that the filter keeps, each of np's by itself.

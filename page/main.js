@@ -7,8 +7,10 @@ const VIEWS = [
     { name: 'matrix', label: 'Matrix', sections: [matrixSection], beside: [listSection] },
     { name: 'list', label: 'List', sections: [listSection], beside: [] },
     { name: 'graph', label: 'One workload', sections: [graphSection], beside: [listSection] },
+    { name: 'overview', label: 'Whole cluster', sections: [overviewSection], beside: [] },
     { name: 'changes', label: 'Changes', sections: [changesSection], beside: [], needs: app => app.before },
     { name: 'exposure', label: 'New pods', sections: [exposureSection], beside: [] },
+    { name: 'policies', label: 'Policies', sections: [policiesSection], beside: [], needs: () => page.explained },
     { name: 'unused', label: 'Unused rules', sections: [unusedSection], beside: [] },
     { name: 'caveats', label: 'Caveats', sections: [caveatsSection], beside: [], needs: () => page.caveats.length },
 ];

@@ -225,13 +225,15 @@ function matrixSection(app) {
     if (matrix.senders.length * matrix.receivers.length <= MOST_LABELLED) labelCells(matrix);
     const first = grid.querySelector('tbody td:not(.left-out)');
     if (first) first.tabIndex = 0;
+    const scroll = element('div', { class: 'scroll' }, grid);
+    scroll.style.setProperty('--zoom', ZOOMS.includes(app.state.zoom) ? app.state.zoom / 100 : 1);
     const nothing = app.table.names.length ? 'Nothing that passes is kept by the filter.' : 'The cluster has no workloads.';
     return element('section', { class: 'matrix', 'aria-label': 'Matrix' },
-        element('div', { class: 'bar' }, element('h2', {}, 'Who reaches whom'), legend()),
+        element('div', { class: 'bar' }, element('h2', {}, 'Who reaches whom'), legend(), zoomControl(app)),
         matrix.left > 0 && element('p', { class: 'hint' }, count(matrix.left, 'line is', 'lines are') + ' not shown here: '
             + 'close namespaces that are open, choose a namespace, or read the list.'),
         matrix.senders.length && matrix.receivers.length
-            ? element('div', {}, element('div', { class: 'scroll' }, grid), element('div', { class: 'sheets' }))
+            ? element('div', {}, scroll, element('div', { class: 'sheets' }))
             : element('p', { class: 'hint' }, nothing));
 }
 
@@ -247,7 +249,7 @@ function matrixHead(app, matrix) {
         element('th', { class: 'corner' }, element('span', {}, 'from ↓   to →')),
         ...matrix.receivers.map((line, c) => element('th', { scope: 'col', class: columnClass(matrix.receivers, c, app), title: line.full },
             element('span', { class: 'turned' },
-                line.kind === 'namespace' || !line.members || line.namespace === '' ? line.label : line.namespace + '/' + line.label))));
+                cutMiddle(sheetName(line), 24)))));
 }
 
 // Whether a column begins a namespace, where it is not among closed ones.
@@ -293,8 +295,11 @@ function headingRow(app, namespace, columns) {
     return element('tr', { class: 'heading' }, element('th', { scope: 'rowgroup', colspan: columns + 1 },
         namespace === '' ? label : element('button', { type: 'button', class: 'toggle', 'data-key': 'namespace ' + namespace,
             'aria-expanded': 'true', title: 'Close the namespace',
-            click: () => toggle(app, 'namespace ' + namespace) }, '▾ ' + label)));
+            click: () => toggle(app, 'namespace ' + namespace) }, '▾ ' + cutMiddle(label, nameLetters()))));
 }
+
+// How many letters of a name there is room for.
+function nameLetters() { return innerWidth < 600 ? 20 : innerWidth < 1800 ? 36 : 56; }
 
 function lineHead(app, line) {
     const opens = line.kind === 'namespace' || line.kind === 'equal';
@@ -306,7 +311,7 @@ function lineHead(app, line) {
             'data-key': line.key,
             'aria-expanded': 'false',
             click: () => toggle(app, line.key),
-        }, '▸ ' + line.label + (line.kind === 'namespace' ? ' (' + line.members.length.toLocaleString('en') + ')' : '')),
+        }, '▸ ' + cutMiddle(line.label, nameLetters()) + (line.kind === 'namespace' ? ' (' + line.members.length.toLocaleString('en') + ')' : '')),
         closes && element('button', {
             type: 'button',
             class: 'toggle',
@@ -320,7 +325,7 @@ function lineHead(app, line) {
             class: 'name',
             title: 'Picture of ' + line.full,
             click: () => app.change({ view: 'graph', focus: line.full }),
-        }, line.label),
+        }, cutMiddle(line.label, nameLetters())),
         !line.members && line.label);
 }
 

@@ -12,6 +12,8 @@ const START = {
     sort: 'all',
     passing: true,
     joined: true,
+    zoom: '100',
+    policy: '',
     toggled: [],
 };
 

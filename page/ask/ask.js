@@ -100,14 +100,6 @@ function commandPart(words, saves) {
     return element('div', { class: 'command' }, element('code', { class: 'line' }, line), copyButton('Copy', line), ...saves || []);
 }
 
-function saveButton(label, name, bytes) {
-    return element('button', { type: 'button', class: 'copy', click: () => {
-        const link = element('a', { href: URL.createObjectURL(new Blob([bytes()])), download: name });
-        link.click();
-        setTimeout(() => URL.revokeObjectURL(link.href), 60000);
-    } }, label);
-}
-
 // The objects that np refused, and what to do.
 function faultParts(side, said) {
     const advice = adviceOf(said);
