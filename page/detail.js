@@ -33,7 +33,7 @@ function rowsOfEnds(table, from, to) {
         .map(row => ({ source: side === 0 ? row.range : from, destination: side === 0 ? to : row.range, connections: row.text }));
 }
 
-function rowLine(row) { return row.source + ' => ' + row.destination + ' : ' + row.connections; }
+function rowLine(row) { return endShown(row.source) + ' => ' + endShown(row.destination) + ' : ' + row.connections; }
 
 // The workloads of an end of a cell: one, or all of a namespace; undefined for an end outside.
 function endMembers(table, end) {

@@ -30,9 +30,18 @@ function outsideNeighbours(table, workload) {
     const through = table.texts[table.groups[table.groupOf[workload]].through]
         .map(({ text }) => ({ label: CONTROLLER, text, from: CONTROLLER, to: name }));
     return {
-        senders: passing(0).map(row => ({ label: row.range, text: row.text, from: row.range, to: name })).concat(through),
-        receivers: passing(1).map(row => ({ label: row.range, text: row.text, from: name, to: row.range })),
+        senders: passing(0).map(row => ({ label: endShown(row.range), text: row.text, from: row.range, to: name })).concat(through),
+        receivers: passing(1).map(row => ({ label: endShown(row.range), text: row.text, from: name, to: row.range })),
     };
+}
+
+// Those that the filter keeps.
+function keptNeighbours({ table, state }, { senders, receivers }) {
+    const filter = makeFilter(state);
+    const inNamespace = box => !filter.namespace || namespaceOf(state.focus) === filter.namespace
+        || box.members && box.members.some(member => table.namespaces[member] === filter.namespace);
+    const isKept = box => inNamespace(box) && keepsText(filter, box.text, filter.bits(box.from) | filter.bits(box.to) | filter.bits(box.label));
+    return { senders: senders.filter(isKept), receivers: receivers.filter(isKept) };
 }
 
 function graphSection(app) {
@@ -46,7 +55,7 @@ function graphSection(app) {
                 ? 'No workload has that name.'
                 : 'Choose a workload to see who sends to it and what it sends to.'));
     }
-    const near = neighbours(table, workload), outside = outsideNeighbours(table, workload);
+    const [near, outside] = [neighbours(table, workload), outsideNeighbours(table, workload)].map(sides => keptNeighbours(app, sides));
     return element('section', { class: 'graph', 'aria-label': 'Picture of ' + state.focus },
         element('div', { class: 'bar' }, element('h2', {}, 'One workload'), chooser, zoomControl(app),
             savePicture(state.focus.replace(/[^A-Za-z0-9._-]+/g, '-'))),

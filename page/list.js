@@ -70,8 +70,8 @@ function openingRow(app, [from, to], [sign, source, destination, ...texts]) {
         }
     } },
     element('td', {}, sign),
-    element('td', { class: 'end' }, ...breakable(source)),
-    element('td', { class: 'end' }, ...breakable(destination)),
+    element('td', { class: 'end' }, ...breakable(endShown(source))),
+    element('td', { class: 'end' }, ...breakable(endShown(destination))),
     ...texts.map(text => element('td', { class: 'connections' }, text)));
 }
 

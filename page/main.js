@@ -3,16 +3,20 @@
 // What is shown, as np answered it, and the state of the page; both are there once `show` is called.
 let page = null, app = null;
 
+const WORDS = ['search'], WHICH = ['search', 'namespace', 'protocol', 'port'];
+const EVERY = [...WHICH, 'sort', 'passing', 'joined', 'cidrs', 'focus'];
+
+// The filters of a view are those that leave something out of it.
 const VIEWS = [
-    { name: 'matrix', label: 'Matrix', sections: [matrixSection], beside: [listSection] },
-    { name: 'list', label: 'List', sections: [listSection], beside: [] },
-    { name: 'graph', label: 'One workload', sections: [graphSection], beside: [listSection] },
-    { name: 'overview', label: 'Whole cluster', sections: [overviewSection], beside: [] },
-    { name: 'changes', label: 'Changes', sections: [changesSection], beside: [], needs: app => app.before },
-    { name: 'exposure', label: 'New pods', sections: [exposureSection], beside: [] },
+    { name: 'matrix', label: 'Matrix', sections: [matrixSection], beside: [listSection], filters: EVERY },
+    { name: 'list', label: 'List', sections: [listSection], beside: [], filters: EVERY },
+    { name: 'graph', label: 'One workload', sections: [graphSection], beside: [listSection], filters: EVERY },
+    { name: 'overview', label: 'Whole cluster', sections: [overviewSection], beside: [], filters: WHICH },
+    { name: 'changes', label: 'Changes', sections: [changesSection], beside: [], filters: [...WHICH, 'sort', 'cidrs', 'focus'], needs: app => app.before },
+    { name: 'exposure', label: 'New pods', sections: [exposureSection], beside: [], filters: [...WHICH, 'focus'] },
     { name: 'policies', label: 'Policies', sections: [policiesSection], beside: [], needs: () => page.explained },
-    { name: 'unused', label: 'Unused rules', sections: [unusedSection], beside: [] },
-    { name: 'caveats', label: 'Caveats', sections: [caveatsSection], beside: [], needs: () => page.caveats.length },
+    { name: 'unused', label: 'Unused rules', sections: [unusedSection], beside: [], filters: WORDS },
+    { name: 'caveats', label: 'Caveats', sections: [caveatsSection], beside: [], filters: WORDS, needs: () => page.caveats.length },
 ];
 
 // ---- The rules that decide nothing
@@ -73,10 +77,10 @@ function control(name, made) {
 
 function toolbar() {
     const namespaces = Array.from(new Set(app.table.namespaces)).sort();
-    const labelled = (label, made) => element('label', {}, label + ' ', made);
+    const labelled = (label, made) => element('label', { 'data-filter': made.id.slice(7) }, label + ' ', made);
     const search = element('input', { type: 'search', placeholder: 'name, port, address ( / )', autocomplete: 'off' });
     const options = names => names.map(name => option(name, name));
-    const check = (name, label) => element('label', { class: 'check' }, control(name, element('input', { type: 'checkbox' })), label);
+    const check = (name, label) => element('label', { class: 'check', 'data-filter': name }, control(name, element('input', { type: 'checkbox' })), label);
     const reset = () => change(Object.assign({}, START, { view: app.state.view }));
     return element('form', { class: 'toolbar', role: 'search', submit: event => event.preventDefault() },
         labelled('Search', control('search', search)),
@@ -86,13 +90,17 @@ function toolbar() {
         labelled('Port', control('port', element('input', { type: 'number', min: 1, max: 65535 }))),
         check('passing', ' only what passes'),
         app.table.groups.length < app.table.names.length && check('joined', ' equal workloads as one line'),
-        element('span', { id: 'focused' }),
+        app.table.ranges.some(range => range.includes(',')) && check('cidrs', ' ranges as CIDRs'),
+        element('span', { id: 'focused', 'data-filter': 'focus' }),
         element('button', { type: 'button', id: 'reset', click: reset }, 'Reset'),
         copyButton('Copy link', () => location.href));
 }
 
-function showControls() {
-    for (const name of ['search', 'namespace', 'sort', 'protocol', 'port', 'passing', 'joined']) {
+// The controls have the values of the state, and only those that filter the view are there.
+function showControls(filters) {
+    for (const made of document.querySelectorAll('[data-filter]')) made.hidden = !filters.includes(made.dataset.filter);
+    document.getElementById('reset').hidden = !filters.length;
+    for (const name of EVERY) {
         const made = document.getElementById('filter-' + name);
         if (!made) continue;
         if (made.type === 'checkbox') made.checked = app.state[name];
@@ -124,10 +132,19 @@ function keysHelp() {
 
 // ---- Drawing
 
+// What is looked at is a place to which Back goes back. Each letter that is typed is none.
+function keepState(names) {
+    const typed = names.every(name => name === 'search' || name === 'port') && names.join();
+    const link = writeState(app.state);
+    const isSame = typed && typed === app.typed || link === location.hash;
+    app.typed = typed;
+    try { history[isSame ? 'replaceState' : 'pushState'](null, '', link); } catch (error) { location.hash = link; }
+}
+
 function change(patch) {
     const opened = Object.keys(patch).every(name => name === 'from' || name === 'to');
     app.state = Object.assign({}, app.state, patch);
-    try { history.replaceState(null, '', writeState(app.state)); } catch (error) { location.hash = writeState(app.state); }
+    keepState(Object.keys(patch));
     if (opened) drawDetail();
     else draw();
 }
@@ -139,7 +156,7 @@ function draw() {
     for (const button of document.querySelectorAll('button.view')) {
         button.setAttribute('aria-current', button.dataset.view === view.name ? 'page' : 'false');
     }
-    showControls();
+    showControls(view.filters || []);
     if (page.terminal) showTerminal(page.terminal(view.name, app.state));
     document.getElementById('view').replaceChildren(...view.sections.map(section => section(app)));
     document.getElementById('beside').replaceChildren(...view.beside.map(section => section(app)));
@@ -169,7 +186,7 @@ function drawDetail() {
         title: 'Esc',
         click: () => change({ from: '', to: '' }),
     }, '×');
-    detail.append(element('div', { class: 'bar' }, element('h2', {}, from + ' → ' + to), close), detailOf(app, from, to));
+    detail.append(element('div', { class: 'bar' }, element('h2', {}, endShown(from) + ' → ' + endShown(to)), close), detailOf(app, from, to));
     const cell = document.body.dataset.view === 'matrix' && openedCell(app, app.matrix);
     if (cell) cell.classList.add('opened');
     for (const made of document.querySelectorAll('[data-ends]')) {
@@ -239,7 +256,7 @@ function show(answered) {
     if (isFirst) {
         document.addEventListener('keydown', pressed);
         listenForPrint();
-        window.addEventListener('hashchange', () => { app.state = readState(location.hash); draw(); });
+        window.addEventListener('hashchange', () => { app.state = readState(location.hash); app.typed = ''; draw(); });
     }
     draw();
 }

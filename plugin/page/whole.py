@@ -17,7 +17,7 @@ if TYPE_CHECKING:
 
 # The parts of the page, in their order.
 STYLES = ("page.css",)
-SCRIPTS = ("model.js", "rows.js", "changes.js", "state.js", "element.js", "explained.js", "caveats.js", "detail.js",
+SCRIPTS = ("model.js", "ranges.js", "rows.js", "changes.js", "state.js", "element.js", "explained.js", "caveats.js", "detail.js",
            "list.js", "matrix.js", "picture.js", "graph.js", "overview.js", "policies.js", "exposure.js", "print.js", "main.js", "shown.js")
 
 # How many bytes a page has at the most: what opens well. NP_PAGE_MOST in the environment may be another number.
