@@ -88,9 +88,9 @@ function toolbar() {
         labelled('Rows', control('sort', element('select', {}, ...Object.keys(SORTS).map(name => option(name, SORTS[name].label))))),
         labelled('Protocol', control('protocol', element('select', {}, option('', 'any'), ...options(['TCP', 'UDP', 'SCTP'])))),
         labelled('Port', control('port', element('input', { type: 'number', min: 1, max: 65535 }))),
-        check('passing', ' only what passes'),
-        app.table.groups.length < app.table.names.length && check('joined', ' equal workloads as one line'),
-        app.table.ranges.some(range => range.includes(',')) && check('cidrs', ' ranges as CIDRs'),
+        check('passing', 'only what passes'),
+        app.table.groups.length < app.table.names.length && check('joined', 'equal workloads as one line'),
+        app.table.ranges.some(range => range.includes(',')) && check('cidrs', 'ranges as CIDRs'),
         element('span', { id: 'focused', 'data-filter': 'focus' }),
         element('button', { type: 'button', id: 'reset', click: reset }, 'Reset'),
         copyButton('Copy link', () => location.href));

@@ -3,7 +3,6 @@
 
 const MANY_LINES = 60;
 const MOST_LINES = 150;
-const MOST_LABELLED = 4000;
 const SIGNS = ['·', '◐', '●'];
 const LEVEL_WORDS = ['nothing passes', 'some passes', 'everything passes'];
 const LEVEL_CLASSES = ['none', 'some', 'all'];
@@ -222,7 +221,7 @@ function matrixSection(app) {
     grid.addEventListener('keydown', event => moveInMatrix(app, matrix, event));
     grid.addEventListener('mouseover', event => tellCell(matrix, event));
     grid.addEventListener('focusin', event => tellCell(matrix, event));
-    if (matrix.senders.length * matrix.receivers.length <= MOST_LABELLED) labelCells(matrix);
+    labelCells(matrix);
     const first = grid.querySelector('tbody td:not(.left-out)');
     if (first) first.tabIndex = 0;
     const scroll = element('div', { class: 'scroll' }, grid);
@@ -329,8 +328,7 @@ function lineHead(app, line) {
         !line.members && line.label);
 }
 
-// A cell has as little as can be: there may be ten thousand of them. What it says in words is told when it is pointed at, and from the
-// start where there are few.
+// A cell has as little as can be: there may be twenty thousand of them.
 function matrixCell(cell, edge) {
     const made = document.createElement('td');
     made.className = (cell === null ? 'left-out' : LEVEL_CLASSES[cell.level]) + edge;
@@ -411,7 +409,5 @@ function moveInMatrix(app, matrix, event) {
 
 function tellCell(matrix, event) {
     const place = placeOfEvent(matrix, event);
-    if (!place || place.cell.title) return;
-    place.cell.title = cellWords(matrix, place.r, place.c);
-    place.cell.setAttribute('aria-label', place.cell.title);
+    if (place) place.cell.title = place.cell.getAttribute('aria-label');
 }
