@@ -59,6 +59,7 @@ def main():
         browser.open("page.html")
         browser.devtools("Emulation.setDeviceMetricsOverride", {"width": WIDTH, "height": HEIGHT, "deviceScaleFactor": 1, "mobile": False})
         browser.devtools("Emulation.setEmulatedMedia", {"media": "print"})
+        browser.run("window.dispatchEvent(new Event('beforeprint'))")
         sheets = browser.run(SHEET)
         whole = [sheet for sheet in sheets if sheet["caption"]]
         checks.same("sheets", len(whole), 6)
@@ -72,6 +73,7 @@ def main():
         checks.same("what is hidden", browser.run("return ['.toolbar', '.matrix .scroll', 'nav'].map(name => getComputedStyle(document.querySelector(name)).display)"), ["none"] * 3)
         browser.devtools("Emulation.setEmulatedMedia", {"media": ""})
         browser.open("page.html", "#search=-01")
+        checks.same("no sheet before it is printed", browser.texts(".sheet"), [])
         pages = base64.b64decode(browser.devtools("Page.printToPDF", {"preferCSSPageSize": True})["data"])
         checks.true("pages of paper", len(re.findall(rb"/Type\s*/Page\b", pages)) >= 3)
         checks.true("the filter", browser.texts(".sheet .running")[0].endswith(" · filter: -01"))

@@ -7,6 +7,7 @@ from typing import TYPE_CHECKING, List, NamedTuple, Sequence, Tuple
 
 from plugin import parts, said
 from plugin.page.answers import Answers
+from plugin.page.squeeze import squeeze_script, squeeze_style
 from plugin.page.texts import listed, listed_lines, quoted
 from plugin.program import Program
 from plugin.room import Room
@@ -64,10 +65,9 @@ def write_page(program: Program, room: Room, request: Request) -> int:
 
 
 def join_parts(names: Sequence[str]) -> bytes:
-    """The files of these names in the folder page/, one behind the other, without indents, empty lines and lines of comment: none of them
-    means anything to a browser, since no text of a script or a style goes over the end of a line."""
-    lines = (line.strip() for name in names for line in parts.part("page/" + name).splitlines())
-    return b"".join(line + b"\n" for line in lines if line and not line.startswith(b"//"))
+    """The files of these names in the folder page/, one behind the other, squeezed."""
+    text = "".join(parts.part("page/" + name).decode() for name in names)
+    return (squeeze_style if names is STYLES else squeeze_script)(text).encode()
 
 
 def _html(data: bytes) -> bytes:
