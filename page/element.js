@@ -22,9 +22,9 @@ function drawing(name, attributes, ...children) {
     return fill(document.createElementNS('http://www.w3.org/2000/svg', name), attributes, children);
 }
 
-// A text whose lines may end behind a comma or a slash, so that addresses are not broken within.
+// A text whose lines may end behind a comma or a slash, or before a bracket, so that addresses and kinds are not broken within.
 function breakable(text) {
-    const parts = text.match(/[^,\/]+[,\/]?|[,\/]/g) || [];
+    const parts = text.match(/\[?[^,\/[]+[,\/]?|[,\/[]/g) || [];
     return [].concat(...parts.map((part, place) => place ? [document.createElement('wbr'), part] : [part]));
 }
 

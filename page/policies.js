@@ -44,7 +44,8 @@ function policiesSection(app) {
 function policyParts(app, name, { isolates, rules }) {
     const unused = page.unused.filter(rule => rule.startsWith(name + ' '));
     return [
-        element('h3', {}, isolates.size ? 'It isolates: there, only what a rule allows passes' : 'It isolates no workload that these answers are about'),
+        name.startsWith('NetworkPolicy') && element('h3', {}, isolates.size
+            ? 'It isolates: there, only what a rule allows passes' : 'It isolates no workload that these answers are about'),
         element('ul', { class: 'rows' }, ...Array.from(isolates).sort().map(side => element('li', {}, element('code', {}, side)))),
         ...[].concat(...Array.from(rules).sort().map(([rule, rows]) => policyRule(app, name + ' ' + rule, rows))),
         unused.length > 0 && element('h3', {}, 'Rules of it that decide nothing'),
@@ -56,10 +57,18 @@ function policyRule(app, title, rows) {
     const kept = rows.slice(0, app.listed);
     return [element('h3', {}, title),
         element('table', { class: 'rows-table', 'aria-label': title }, rowsHead(['', 'From', 'To', 'Connections']),
-            element('tbody', {}, ...kept.map(({ ends, text }) => openingRow(app, rowEnds(app.table, ends), [
-                levelSign(title.endsWith('denies') ? NOTHING : text), ...ends, text])))),
+            element('tbody', {}, ...kept.map(({ ends, text }) => {
+                const shown = rowEnds(app.table, ends);
+                return openingRow(app, shown, [levelSign(title.endsWith('denies') ? NOTHING : text), ...shown, text]);
+            }))),
         rows.length > kept.length && moreButton(app)];
 }
 
-// The ends of a row of the page: an answer was asked for about the first address of a range.
-function rowEnds(table, ends) { return ends.map(end => table.place.has(end) ? end : 'addresses'); }
+// The ends of a row of np: an answer was asked for about the first address of a range.
+function rowEnds(table, ends) {
+    return ends.map((end, side) => {
+        if (table.place.has(end)) return end;
+        const row = addressRows(table, table.place.get(ends[1 - side]), side).find(({ range }) => range.startsWith(end + '/'));
+        return row ? row.range : 'addresses';
+    });
+}

@@ -91,9 +91,9 @@ def check_policy(browser, checks):
     checks.same("the policies", browser.texts("#policy option"), ["NetworkPolicy shop/" + name for name in ("api", "database", "default-deny", "web")])
     checks.same("whom it isolates", browser.texts("#view li")[:1], ["ingress of " + WEB])
     rows = browser.rows()
-    checks.same("what its rule allows", rows, [[API, WEB, "TCP 8080"], [WEB, WEB, "TCP 8080"], ["0.0.0.0", WEB, "TCP 8080"], ["::", WEB, "TCP 8080"], [DATABASE, WEB, "TCP 8080"]])
+    checks.same("what its rule allows", rows, [[API, WEB, "TCP 8080"], [WEB, WEB, "TCP 8080"], ["0.0.0.0/0", WEB, "TCP 8080"], ["::/0", WEB, "TCP 8080"], [DATABASE, WEB, "TCP 8080"]])
     for source, destination, _ in rows:
-        said = np("explain", "--from", source, "--to", destination, "examples/shop.json")
+        said = np("explain", "--from", source.split("/0")[0], "--to", destination, "examples/shop.json")
         checks.true("as np says of " + source, "TCP 8080 : Allow by NetworkPolicy shop/web ingress[0]\n" in said)
     browser.run("change({ policy: 'NetworkPolicy shop/default-deny' })")
     checks.same("one that only isolates", browser.texts("#view li"), ["ingress of " + name for name in (API, DATABASE, WEB)])
