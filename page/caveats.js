@@ -16,9 +16,7 @@ function caveatsBetween(table, from, to) {
 // Ingresses lead to these workloads, which let in peers that they name: whether the controller is one is not known.
 function unknownReached() { return page.caveats.filter(({ key }) => key === 'controller-not-named'); }
 
-function caveatLines(caveats) {
-    return element('ul', { class: 'rows' }, ...caveats.map(({ line }) => element('li', {}, element('code', {}, line))));
-}
+function caveatLines(caveats) { return codeLines(caveats.map(({ line }) => line)); }
 
 function caveatPart(table, from, to) {
     const caveats = caveatsBetween(table, from, to);
@@ -28,11 +26,9 @@ function caveatPart(table, from, to) {
 function caveatsSection(app) {
     const filter = makeFilter(app.state);
     const caveats = page.caveats.filter(({ line }) => wordBits(filter.words, line) === filter.full);
-    return element('section', { class: 'caveats', 'aria-label': 'Caveats' },
-        element('div', { class: 'bar' }, element('h2', {}, 'Caveats'),
-            element('span', { class: 'count', role: 'status' }, count(caveats.length, 'caveat', 'caveats')),
-            copyButton('Copy', () => caveats.map(({ line }) => line + '\n').join(''))),
-        element('p', { class: 'hint' }, 'No row changes by them. They say where the list and the cluster may not be alike, or where a policy '
+    return viewSection('caveats', 'Caveats', 'Caveats',
+        [told(count(caveats.length, 'caveat', 'caveats')), copyButton('Copy', () => caveats.map(({ line }) => line + '\n').join(''))],
+        hint('No row changes by them. They say where the list and the cluster may not be alike, or where a policy '
             + 'likely does not do what it was written for; kubectl np help KEY says what each means.'),
         caveatLines(caveats));
 }

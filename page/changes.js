@@ -120,13 +120,9 @@ function changesSection(app) {
     const changes = app.changes.filter(change => changeKept(filter, change));
     const head = ['change', 'source', 'destination', 'before', 'after'];
     const texts = change => [change.sort, change.source, change.destination, change.before, change.after];
-    return element('section', { class: 'changes', 'aria-label': 'Changes' },
-        element('div', { class: 'bar' },
-            element('h2', {}, 'What changed'),
-            element('span', { class: 'count', role: 'status' }, changeCounts(changes)),
-            copyButton('Copy as CSV', () => csvOf(head, changes.map(texts)))),
-        !changes.length && element('p', { class: 'hint' },
-            app.changes.length ? 'No change is kept by the filter.' : 'Both snapshots have the same rows.'),
+    return viewSection('changes', 'Changes', 'What changed',
+        [told(changeCounts(changes)), copyButton('Copy as CSV', () => csvOf(head, changes.map(texts)))],
+        !changes.length && hint(app.changes.length ? 'No change is kept by the filter.' : 'Both snapshots have the same rows.'),
         ...['opened', 'closed', 'changed'].map(sort => changesOfSort(app, sort, changes.filter(change => change.sort === sort))));
 }
 

@@ -67,8 +67,9 @@ function manyDetail(app, from, to) {
         element('p', {}, ...Array.from(new Set(namespaces)).map(end => element('button', { type: 'button',
             click: () => toggle(app, end) }, 'Open or close ' + end))),
         element('h3', {}, rows.length ? 'Rows in which something passes (' + rows.length.toLocaleString('en') + ')' : 'Nothing passes'),
-        element('table', { class: 'rows-table', 'aria-label': 'Rows' }, element('tbody', {}, ...rows.slice(0, LIST_PART).map(row => listRow(app, row)))),
-        rows.length > LIST_PART && element('p', { class: 'hint' }, 'The first ' + LIST_PART + ' are shown; the list has all of them.'));
+        rows.length > 0 && element('table', { class: 'rows-table', 'aria-label': 'Rows' }, rowsHead(['', 'From', 'To', 'Connections']),
+            element('tbody', {}, ...rows.slice(0, LIST_PART).map(row => listRow(app, row)))),
+        rows.length > LIST_PART && hint('The first ' + LIST_PART + ' are shown; the list has all of them.'));
 }
 
 function detailOf(app, from, to) {
@@ -83,7 +84,7 @@ function detailOf(app, from, to) {
     const shown = rows.length ? rows : [{ source: from, destination: to, connections: NOTHING }];
     return element('div', { class: 'detail-body' },
         element('h3', {}, 'Connections'),
-        element('ul', { class: 'rows' }, ...shown.map(row => element('li', {}, element('code', {}, rowLine(row))))),
+        codeLines(shown.map(rowLine)),
         ...decidingPart(app, from, to, rows),
         ...caveatPart(table, from, to),
         ...exposurePart(app, from, 1, 'New pods that ' + from + ' may send to'),
@@ -102,18 +103,16 @@ function decidingPart(app, from, to, rows) {
     const left = asked.length - MOST_EXPLAINED;
     return [element('h3', {}, 'What decides'),
         ...asked.slice(0, MOST_EXPLAINED).map(pair => explained(app, pair.one, pair.other)),
-        left > 0 && element('p', { class: 'hint' },
-            count(left, 'more range is', 'more ranges are') + ' not explained here; each is a row of the list.')];
+        left > 0 && hint(count(left, 'more range is', 'more ranges are') + ' not explained here; each is a row of the list.')];
 }
 
 // Of what comes through Ingresses, only what a controller of a known name may send can be explained.
 function controllerPart(app, to) {
     if (!page.controller) {
-        return [element('p', { class: 'hint' },
-            'The controller of Ingresses is no workload that is known here, so np explain has no end for it. '
+        return [hint('The controller of Ingresses is no workload that is known here, so np explain has no end for it. '
             + 'What the workload lets in stands below; --controller NAME names the controller.')];
     }
-    return [element('p', { class: 'hint' }, 'The controller is ' + page.controller + '. Of what it may send, the ports to which an Ingress leads pass:'),
+    return [hint('The controller is ' + page.controller + '. Of what it may send, the ports to which an Ingress leads pass:'),
         explained(app, page.controller, to)];
 }
 
@@ -131,9 +130,9 @@ function isolationPart(app, from, to) {
     const lines = ['egress of ' + from, 'ingress of ' + to].filter(side => app.isolation.has(side))
         .map(side => side + ' : isolated by NetworkPolicy ' + app.isolation.get(side).join(', '));
     return element('div', {},
-        lines.length && element('p', { class: 'hint' }, 'Without a rule that allows it nothing passes here, since policies isolate a side:'),
+        lines.length && hint('Without a rule that allows it nothing passes here, since policies isolate a side:'),
         lines.length && element('pre', { class: 'answer isolation' }, lines.map(line => line + '\n').join('')),
-        element('p', { class: 'hint' }, 'The rule is named by np, for every port and at both ends:'));
+        hint('The rule is named by np, for every port and at both ends:'));
 }
 
 function deciderClass(line) {

@@ -28,6 +28,25 @@ function breakable(text) {
     return [].concat(...parts.map((part, place) => place ? [document.createElement('wbr'), part] : [part]));
 }
 
+function hint(text) { return element('p', { class: 'hint' }, text); }
+
+// A view: what it is called, its heading, what stands beside that, and what is in it.
+function viewSection(kind, label, heading, beside, ...children) {
+    return element('section', { class: kind, 'aria-label': label },
+        element('div', { class: 'bar' }, element('h2', {}, heading), ...beside), ...children);
+}
+
+// How much a view has, which is told anew when that changes.
+function told(text) { return element('span', { class: 'count', role: 'status' }, text); }
+
+// Lines of np.
+function codeLines(lines) { return element('ul', { class: 'rows' }, ...lines.map(line => element('li', {}, element('code', {}, line)))); }
+
+// What a key does that stands for a click.
+function byKey(open) {
+    return event => { if (event.key === 'Enter' || event.key === ' ') { event.preventDefault(); open(); } };
+}
+
 function count(number, one, many) { return number.toLocaleString('en') + ' ' + (number === 1 ? one : many); }
 
 // Puts a text on the clipboard. Where the browser does not let a page do that, the text is shown, marked, to be copied by hand.
@@ -65,7 +84,8 @@ function copyButton(label, text) {
 function rowsHead(names) {
     return element('thead', {},
         element('tr', { class: 'running' }, element('td', { colspan: names.length }, sheetText(app))),
-        element('tr', {}, ...names.map(name => element('th', { scope: 'col' }, name || element('span', { class: 'unseen' }, 'what passes')))));
+        element('tr', {}, ...names.map(name =>
+            element('th', { scope: 'col' }, name || element('span', { class: 'unseen' }, 'what passes')))));
 }
 
 // A text of at most so many letters: what stands in its middle is left out, since names mostly differ at their ends.

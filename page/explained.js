@@ -7,8 +7,8 @@ function readExplained(raw, names) {
     const ends = names.concat(raw.addresses);
     for (let i = 0; i < raw.ends.length; i += 3) {
         const from = ends[raw.ends[i]], to = ends[raw.ends[i + 1]];
-        const lines = raw.answers[raw.ends[i + 2]].split(' ').map(number => raw.lines[number].split('\u0002').join(to).split('\u0001').join(from));
-        answers.set(from + ' ' + to, lines);
+        const lines = raw.answers[raw.ends[i + 2]].split(' ').map(number => raw.lines[number]);
+        answers.set(from + ' ' + to, lines.map(line => line.split('\u0002').join(to).split('\u0001').join(from)));
     }
     return answers;
 }

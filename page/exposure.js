@@ -21,17 +21,13 @@ function exposureTables(app) {
 
 function exposureSection(app) {
     if (app.refused) {
-        return element('section', { class: 'exposure' }, element('h2', {}, 'New pods'), element('p', { class: 'hint' }, app.refused));
+        return viewSection('exposure', 'New pods', 'New pods', [], hint(app.refused));
     }
     const rows = [].concat(...exposureTables(app));
     const texts = row => [row.source, row.destination, row.connections];
-    return element('section', { class: 'exposure', 'aria-label': 'New pods' },
-        element('div', { class: 'bar' },
-            element('h2', {}, 'New pods'),
-            element('span', { class: 'count', role: 'status' }, count(rows.length, 'row', 'rows')),
-            copyButton('Copy as CSV', () => csvOf(['source', 'destination', 'connections'], rows.map(texts)))),
-        element('p', { class: 'hint' },
-            'What each workload allows a pod that nobody has written yet. Of a workload and a direction, the first row whose '
+    return viewSection('exposure', 'New pods', 'New pods',
+        [told(count(rows.length, 'row', 'rows')), copyButton('Copy as CSV', () => csvOf(ROW_HEAD, rows.map(texts)))],
+        hint('What each workload allows a pod that nobody has written yet. Of a workload and a direction, the first row whose '
             + 'requirements the pod meets is its verdict, so all of its rows are shown, those in which nothing passes too.'),
         element('table', { class: 'rows-table', 'aria-label': 'New pods' },
             rowsHead(['', 'From', 'To', 'Connections']),
@@ -51,10 +47,9 @@ function exposureRow(row) {
 function exposurePart(app, name, side, title) {
     const { table } = app;
     if (!table.place.has(name)) return [];
-    if (app.refused) return [element('h3', {}, title), element('p', { class: 'hint' }, app.refused)];
+    if (app.refused) return [element('h3', {}, title), hint(app.refused)];
     const rows = exposureRows(table, table.place.get(name), side);
     if (!rows.length) return [];
-    return [element('h3', {}, title), element('ul', { class: 'rows' }, ...rows.map(row => element('li', {}, element('code', {},
-        side === 0 ? rowLine({ source: row.end, destination: name, connections: row.text })
-            : rowLine({ source: name, destination: row.end, connections: row.text })))))];
+    return [element('h3', {}, title), codeLines(rows.map(row => rowLine(side === 0
+        ? { source: row.end, destination: name, connections: row.text } : { source: name, destination: row.end, connections: row.text })))];
 }

@@ -40,7 +40,8 @@ function keptNeighbours({ table, state }, { senders, receivers }) {
     const filter = makeFilter(state);
     const inNamespace = box => !filter.namespace || namespaceOf(state.focus) === filter.namespace
         || box.members && box.members.some(member => table.namespaces[member] === filter.namespace);
-    const isKept = box => inNamespace(box) && keepsText(filter, box.text, filter.bits(box.from) | filter.bits(box.to) | filter.bits(box.label));
+    const isKept = box => inNamespace(box)
+        && keepsText(filter, box.text, filter.bits(box.from) | filter.bits(box.to) | filter.bits(box.label));
     return { senders: senders.filter(isKept), receivers: receivers.filter(isKept) };
 }
 
@@ -49,16 +50,14 @@ function graphSection(app) {
     const workload = table.place.get(state.focus);
     const chooser = element('label', {}, 'Workload ', focusInput(app));
     if (workload === undefined) {
-        return element('section', { class: 'graph', 'aria-label': 'Picture' },
-            element('div', { class: 'bar' }, element('h2', {}, 'One workload'), chooser),
-            element('p', { class: 'hint' }, state.focus
+        return viewSection('graph', 'Picture', 'One workload', [chooser],
+            hint(state.focus
                 ? 'No workload has that name.'
                 : 'Choose a workload to see who sends to it and what it sends to.'));
     }
     const [near, outside] = [neighbours(table, workload), outsideNeighbours(table, workload)].map(sides => keptNeighbours(app, sides));
-    return element('section', { class: 'graph', 'aria-label': 'Picture of ' + state.focus },
-        element('div', { class: 'bar' }, element('h2', {}, 'One workload'), chooser, zoomControl(app),
-            savePicture(state.focus.replace(/[^A-Za-z0-9._-]+/g, '-'))),
+    return viewSection('graph', 'Picture of ' + state.focus, 'One workload',
+        [chooser, zoomControl(app), savePicture(state.focus.replace(/[^A-Za-z0-9._-]+/g, '-'))],
         shownPicture(app, starDrawing(app, state.focus, near, outside)));
 }
 
@@ -127,7 +126,7 @@ function starBox(app, box, x, y) {
         click: open,
         dblclick: () => box.members && focus(),
         keydown: event => {
-            if (event.key === 'Enter' || event.key === ' ') { event.preventDefault(); open(); }
+            byKey(open)(event);
             if (event.key === 'f' && box.members) { event.stopPropagation(); focus(); }
         },
     };

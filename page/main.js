@@ -12,7 +12,8 @@ const VIEWS = [
     { name: 'list', label: 'List', sections: [listSection], beside: [], filters: EVERY },
     { name: 'graph', label: 'One workload', sections: [graphSection], beside: [listSection], filters: EVERY },
     { name: 'overview', label: 'Whole cluster', sections: [overviewSection], beside: [], filters: WHICH },
-    { name: 'changes', label: 'Changes', sections: [changesSection], beside: [], filters: [...WHICH, 'sort', 'cidrs', 'focus'], needs: app => app.before },
+    { name: 'changes', label: 'Changes', sections: [changesSection], beside: [], filters: [...WHICH, 'sort', 'cidrs', 'focus'],
+        needs: app => app.before },
     { name: 'exposure', label: 'New pods', sections: [exposureSection], beside: [], filters: [...WHICH, 'focus'] },
     { name: 'policies', label: 'Policies', sections: [policiesSection], beside: [], needs: () => page.explained },
     { name: 'unused', label: 'Unused rules', sections: [unusedSection], beside: [], filters: WORDS },
@@ -23,13 +24,11 @@ const VIEWS = [
 
 function unusedSection() {
     const rules = page.unused.filter(rule => wordBits(makeFilter(app.state).words, rule) === makeFilter(app.state).full);
-    return element('section', { class: 'unused', 'aria-label': 'Unused rules' },
-        element('div', { class: 'bar' }, element('h2', {}, 'Rules that decide nothing'),
-            element('span', { class: 'count', role: 'status' }, count(rules.length, 'rule', 'rules')),
-            copyButton('Copy', () => rules.map(rule => rule + '\n').join(''))),
-        element('p', { class: 'hint' }, 'Without all of them at once no verdict changes between the listed pods, or between them and an '
+    return viewSection('unused', 'Unused rules', 'Rules that decide nothing',
+        [told(count(rules.length, 'rule', 'rules')), copyButton('Copy', () => rules.map(rule => rule + '\n').join(''))],
+        hint('Without all of them at once no verdict changes between the listed pods, or between them and an '
             + 'address. Places count from 0.'),
-        element('ul', { class: 'rows' }, ...rules.map(rule => element('li', {}, element('code', {}, rule)))));
+        codeLines(rules));
 }
 
 // ---- The top
@@ -80,7 +79,8 @@ function toolbar() {
     const labelled = (label, made) => element('label', { 'data-filter': made.id.slice(7) }, label + ' ', made);
     const search = element('input', { type: 'search', placeholder: 'name, port, address ( / )', autocomplete: 'off' });
     const options = names => names.map(name => option(name, name));
-    const check = (name, label) => element('label', { class: 'check', 'data-filter': name }, control(name, element('input', { type: 'checkbox' })), label);
+    const check = (name, label) => element('label', { class: 'check', 'data-filter': name },
+        control(name, element('input', { type: 'checkbox' })), label);
     const reset = () => change(Object.assign({}, START, { view: app.state.view }));
     return element('form', { class: 'toolbar', role: 'search', submit: event => event.preventDefault() },
         labelled('Search', control('search', search)),
@@ -186,7 +186,8 @@ function drawDetail() {
         title: 'Esc',
         click: () => change({ from: '', to: '' }),
     }, '×');
-    detail.append(element('div', { class: 'bar' }, element('h2', {}, endShown(from) + ' → ' + endShown(to)), close), detailOf(app, from, to));
+    const heading = element('h2', {}, endShown(from) + ' → ' + endShown(to));
+    detail.append(element('div', { class: 'bar' }, heading, close), detailOf(app, from, to));
     const cell = document.body.dataset.view === 'matrix' && openedCell(app, app.matrix);
     if (cell) cell.classList.add('opened');
     for (const made of document.querySelectorAll('[data-ends]')) {

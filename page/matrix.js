@@ -227,13 +227,12 @@ function matrixSection(app) {
     const scroll = element('div', { class: 'scroll' }, grid);
     scroll.style.setProperty('--zoom', ZOOMS.includes(app.state.zoom) ? app.state.zoom / 100 : 1);
     const nothing = app.table.names.length ? 'Nothing that passes is kept by the filter.' : 'The cluster has no workloads.';
-    return element('section', { class: 'matrix', 'aria-label': 'Matrix' },
-        element('div', { class: 'bar' }, element('h2', {}, 'Who reaches whom'), legend(), zoomControl(app)),
-        matrix.left > 0 && element('p', { class: 'hint' }, count(matrix.left, 'line is', 'lines are') + ' not shown here: '
+    return viewSection('matrix', 'Matrix', 'Who reaches whom', [legend(), zoomControl(app)],
+        matrix.left > 0 && hint(count(matrix.left, 'line is', 'lines are') + ' not shown here: '
             + 'close namespaces that are open, choose a namespace, or read the list.'),
         matrix.senders.length && matrix.receivers.length
             ? element('div', {}, scroll, element('div', { class: 'sheets' }))
-            : element('p', { class: 'hint' }, nothing));
+            : hint(nothing));
 }
 
 function legend() {
@@ -300,6 +299,11 @@ function headingRow(app, namespace, columns) {
 // How many letters of a name there is room for.
 function nameLetters() { return innerWidth < 600 ? 20 : innerWidth < 1800 ? 36 : 56; }
 
+// The label of a line, with the number of the workloads of a namespace.
+function lineLabel(line, letters) {
+    return cutMiddle(line.label, letters) + (line.kind === 'namespace' ? ' (' + line.members.length.toLocaleString('en') + ')' : '');
+}
+
 function lineHead(app, line) {
     const opens = line.kind === 'namespace' || line.kind === 'equal';
     const closes = line.kind === 'workload' && line.key;
@@ -310,7 +314,7 @@ function lineHead(app, line) {
             'data-key': line.key,
             'aria-expanded': 'false',
             click: () => toggle(app, line.key),
-        }, '▸ ' + cutMiddle(line.label, nameLetters()) + (line.kind === 'namespace' ? ' (' + line.members.length.toLocaleString('en') + ')' : '')),
+        }, '▸ ' + lineLabel(line, nameLetters())),
         closes && element('button', {
             type: 'button',
             class: 'toggle',
@@ -324,7 +328,7 @@ function lineHead(app, line) {
             class: 'name',
             title: 'Picture of ' + line.full,
             click: () => app.change({ view: 'graph', focus: line.full }),
-        }, cutMiddle(line.label, nameLetters())),
+        }, lineLabel(line, nameLetters())),
         !line.members && line.label);
 }
 
@@ -387,11 +391,7 @@ const STEPS = { ArrowRight: [0, 1], ArrowLeft: [0, -1], ArrowDown: [1, 0], Arrow
 function moveInMatrix(app, matrix, event) {
     const place = placeOfEvent(matrix, event);
     if (!place) return;
-    if (event.key === 'Enter' || event.key === ' ') {
-        event.preventDefault();
-        openCell(app, matrix, place.r, place.c);
-        return;
-    }
+    byKey(() => openCell(app, matrix, place.r, place.c))(event);
     const step = STEPS[event.key];
     if (!step) return;
     event.preventDefault();

@@ -1,4 +1,4 @@
-// The picture of the whole cluster: each line of the matrix stands at the left as a sender and at the right as a receiver, by namespace, and
+// The picture of the whole cluster: each line of the matrix stands at the left as a sender and at the right as a receiver, by namespace;
 // where something passes there is a line between. So each line is read from left to right, and no layout is worked out.
 
 const NODE = { width: 330, height: 24, gap: 5, heading: 30, top: 34 };
@@ -26,8 +26,6 @@ function columnPlaces(lines) {
     return { places, frames, height: y };
 }
 
-function nodeLabel(line) { return line.kind === 'namespace' ? line.label + ' (' + line.members.length.toLocaleString('en') + ')' : line.label; }
-
 function overviewNode(app, line, x, y, key) {
     const open = () => {
         if (line.kind === 'workload') app.change({ view: 'graph', focus: line.full });
@@ -41,12 +39,12 @@ function overviewNode(app, line, x, y, key) {
         role: line.members ? 'button' : 'img',
         'aria-label': line.full + (line.kind === 'workload' ? ': its picture' : line.members ? ': open' : ''),
         click: open,
-        keydown: event => { if (event.key === 'Enter' || event.key === ' ') { event.preventDefault(); open(); } },
+        keydown: byKey(open),
         mouseenter: light(true), mouseleave: light(false), focus: light(true), blur: light(false),
     },
     drawing('title', {}, line.full),
     drawing('rect', { x, y, width: NODE.width, height: NODE.height, rx: 4 }),
-    drawing('text', { x: x + 8, y: y + 16 }, cutMiddle(nodeLabel(line), 40)));
+    drawing('text', { x: x + 8, y: y + 16 }, cutMiddle(lineLabel(line, 34), 40)));
 }
 
 function overviewEdge(app, matrix, r, c, end, from, to) {
@@ -64,7 +62,8 @@ function overviewEdge(app, matrix, r, c, end, from, to) {
 function overviewDrawing(app, matrix, edges) {
     const left = columnPlaces(matrix.senders), right = columnPlaces(matrix.receivers);
     // As wide as the window, but neither so narrow nor so wide that lines cannot be followed.
-    const rightX = Math.max(NODE.width + 200, Math.min(1800, innerWidth - 60 - NODE.width)), width = rightX + NODE.width, height = Math.max(left.height, right.height) + 12;
+    const rightX = Math.max(NODE.width + 200, Math.min(1800, innerWidth - 60 - NODE.width));
+    const width = rightX + NODE.width, height = Math.max(left.height, right.height) + 12;
     const frames = (column, x) => [].concat(...column.frames.map(frame => [
         drawing('rect', { class: 'frame', x: x + 0.5, y: frame.y, width: NODE.width - 1, height: frame.height, rx: 6 }),
         drawing('text', { class: 'side-text', x: x + 8, y: frame.y + 20 }, drawing('title', {}, frame.name), cutMiddle(frame.name, 40))]));
@@ -84,10 +83,8 @@ function overviewSection(app) {
     const edges = [];
     matrix.cells.forEach((row, r) => row.forEach((cell, c) => { if (cell !== null && cell.level !== NONE) edges.push([r, c]); }));
     const drawn = edges.slice(0, MOST_EDGES), left = edges.length - drawn.length + matrix.left;
-    return element('section', { class: 'overview', 'aria-label': 'Whole cluster' },
-        element('div', { class: 'bar' }, element('h2', {}, 'The whole cluster'),
-            element('span', { class: 'legend' }, 'thick: everything passes, broken: some'),
-            zoomControl(app), savePicture('np')),
-        left > 0 && element('p', { class: 'hint' }, 'Not all of it is drawn: close namespaces, choose one, or read the list.'),
+    return viewSection('overview', 'Whole cluster', 'The whole cluster',
+        [element('span', { class: 'legend' }, 'thick: everything passes, broken: some'), zoomControl(app), savePicture('np')],
+        left > 0 && hint('Not all of it is drawn: close namespaces, choose one, or read the list.'),
         shownPicture(app, overviewDrawing(app, matrix, drawn)));
 }

@@ -2,14 +2,20 @@
 
 const ZOOMS = ['50', '75', '100', '125', '150', '200'];
 // A saved picture is light, and needs no style but this one.
-const PICTURE_STYLE = 'svg{background:#fff;font:13px monospace}text{fill:#17202b}rect{fill:#f4f6f9;stroke:#5b6776}.outside rect{stroke-dasharray:5 3}'
-    + '.centre rect{fill:#1d5fae}.centre text{fill:#fff}.side-text,.passes{fill:#5b6776}.frame{fill:none}.arrow{fill:#5b6776}'
-    + '.line{fill:none;stroke:#5b6776;stroke-width:1.3;stroke-dasharray:6 3}.line.all{stroke:#1d5fae;stroke-width:2.6;stroke-dasharray:none}';
+const PICTURE_STYLE = 'svg{background:#fff;font:13px monospace}text{fill:#17202b}rect{fill:#f4f6f9;stroke:#5b6776}'
+    + '.outside rect{stroke-dasharray:5 3}.line{fill:none;stroke:#5b6776;stroke-width:1.3;stroke-dasharray:6 3}'
+    + '.line.all{stroke:#1d5fae;stroke-width:2.6;stroke-dasharray:none}'
+    + '.centre rect{fill:#1d5fae}.centre text{fill:#fff}.side-text,.passes{fill:#5b6776}.frame{fill:none}.arrow{fill:#5b6776}';
 
 function zoomControl(app) {
     const place = Math.max(0, ZOOMS.indexOf(app.state.zoom));
     const step = (sign, label, next) => element('button', {
-        type: 'button', 'aria-label': label, title: label, 'data-key': label, disabled: !ZOOMS[next], click: () => app.change({ zoom: ZOOMS[next] }),
+        type: 'button',
+        'aria-label': label,
+        title: label,
+        'data-key': label,
+        disabled: !ZOOMS[next],
+        click: () => app.change({ zoom: ZOOMS[next] }),
     }, sign);
     return element('span', { class: 'zoom', role: 'group', 'aria-label': 'Size' },
         step('−', 'Smaller', place - 1), element('span', {}, ZOOMS[place] + ' %'), step('+', 'Larger', place + 1));
@@ -19,9 +25,10 @@ function zoomControl(app) {
 function pictureText(picture) {
     const copy = picture.cloneNode(true);
     for (const name of ['width', 'height']) copy.setAttribute(name, copy.viewBox.baseVal[name]);
-    for (const made of copy.querySelectorAll('[tabindex]')) for (const name of ['tabindex', 'role', 'data-ends']) made.removeAttribute(name);
-    const said = drawing('desc', {}, sheetText(app));
-    copy.prepend(said);
+    for (const made of copy.querySelectorAll('[tabindex]')) {
+        for (const name of ['tabindex', 'role', 'data-ends']) made.removeAttribute(name);
+    }
+    copy.prepend(drawing('desc', {}, sheetText(app)));
     return new XMLSerializer().serializeToString(copy).replace('<desc', () => '<style>' + PICTURE_STYLE + '</style><desc');
 }
 

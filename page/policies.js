@@ -34,11 +34,10 @@ function policiesSection(app) {
         ...names.map(name => element('option', { value: name }, name)));
     if (chosen) chooser.value = chosen;
     const isPartial = app.explained.size < app.table.names.length ** 2;
-    return element('section', { class: 'policies', 'aria-label': 'One policy' },
-        element('div', { class: 'bar' }, element('h2', {}, 'What a policy does'), element('label', {}, 'Policy ', chooser)),
-        isPartial && element('p', { class: 'hint' }, 'Of the ' + count(app.explained.size, 'pair', 'pairs')
+    return viewSection('policies', 'One policy', 'What a policy does', [element('label', {}, 'Policy ', chooser)],
+        isPartial && hint('Of the ' + count(app.explained.size, 'pair', 'pairs')
             + ' of ends whose answers this page has; it is too large to have them all.'),
-        ...chosen ? policyParts(app, chosen, policies.get(chosen)) : [element('p', { class: 'hint' }, 'No answer in this page names a policy.')]);
+        ...chosen ? policyParts(app, chosen, policies.get(chosen)) : [hint('No answer in this page names a policy.')]);
 }
 
 function policyParts(app, name, { isolates, rules }) {
@@ -46,10 +45,10 @@ function policyParts(app, name, { isolates, rules }) {
     return [
         name.startsWith('NetworkPolicy') && element('h3', {}, isolates.size
             ? 'It isolates: there, only what a rule allows passes' : 'It isolates no workload that these answers are about'),
-        element('ul', { class: 'rows' }, ...Array.from(isolates).sort().map(side => element('li', {}, element('code', {}, side)))),
+        codeLines(Array.from(isolates).sort()),
         ...[].concat(...Array.from(rules).sort().map(([rule, rows]) => policyRule(app, name + ' ' + rule, rows))),
         unused.length > 0 && element('h3', {}, 'Rules of it that decide nothing'),
-        element('ul', { class: 'rows' }, ...unused.map(rule => element('li', {}, element('code', {}, rule)))),
+        codeLines(unused),
     ].filter(Boolean);
 }
 

@@ -6,7 +6,8 @@ const SHEET = { lines: 20, columns: 30, name: 40, head: 22 };
 // What the page is of, and what of it is shown.
 function sheetText(app) {
     const { state } = app;
-    const words = [state.search, state.namespace && 'namespace ' + state.namespace, state.focus, state.protocol, state.port && 'port ' + state.port,
+    const words = [state.search, state.namespace && 'namespace ' + state.namespace, state.focus, state.protocol,
+        state.port && 'port ' + state.port,
         state.sort !== 'all' && SORTS[state.sort] && SORTS[state.sort].label];
     return [page.title[0], page.source !== page.title[0] && page.source, 'made ' + page.made + ' by np ' + page.np,
         words.some(Boolean) && 'filter: ' + words.filter(Boolean).join(', ')].filter(Boolean).join(' · ');
@@ -20,9 +21,11 @@ function sheetParts(count, most) {
     return parts;
 }
 
-function sheetName(line) { return !line.members || line.kind === 'namespace' || line.namespace === '' ? line.label : line.namespace + '/' + line.label; }
+function sheetName(line) {
+    return !line.members || line.kind === 'namespace' || line.namespace === '' ? line.label : line.namespace + '/' + line.label;
+}
 
-// The number of each line and column. A line and a column of the same workloads have the same, since many names are alike where they are cut.
+// The number of each line and column, since many names are alike where they are cut. A line and a column of the same workloads have the same.
 function lineNumbers(matrix) {
     const numbers = new Map();
     for (const line of matrix.senders.concat(matrix.receivers)) if (!numbers.has(line.full)) numbers.set(line.full, numbers.size + 1);
@@ -41,7 +44,8 @@ function sheetOf(app, numbers, [lines, columns], said) {
     return element('section', { class: 'sheet' },
         element('p', { class: 'running' }, sheetText(app)),
         element('table', { class: 'matrix-table' },
-            element('caption', {}, said + ': ' + part(lines, matrix.senders.length, 'lines') + ', ' + part(columns, matrix.receivers.length, 'columns')
+            element('caption', {}, said + ': ' + part(lines, matrix.senders.length, 'lines') + ', '
+                + part(columns, matrix.receivers.length, 'columns')
                 + '. From the line to the column: ● everything passes, ◐ some, · nothing'),
             element('thead', {}, element('tr', {}, element('th', {}, 'from ↓   to →'), ...head)),
             element('tbody', {}, ...rows)));

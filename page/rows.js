@@ -38,7 +38,8 @@ function makeFilter(state) {
     const full = (1 << words.length) - 1;
     const kept = new Map();
     const bits = text => {
-        if (!kept.has(text)) kept.set(text, wordBits(words, text) | (text.includes('/') && text.includes(',') ? wordBits(words, rangeEnds(text)) : 0));
+        const isRange = text.includes('/') && text.includes(',');
+        if (!kept.has(text)) kept.set(text, wordBits(words, isRange ? text + ' ' + rangeEnds(text) : text));
         return kept.get(text);
     };
     const ports = new Map();
@@ -57,7 +58,8 @@ function keepsText(filter, text, bits) {
 
 // The ends of rows: each workload by itself, or each group of equal ones by its members.
 function makeEnds(table, filter, joined) {
-    const lists = joined ? [].concat(...table.groups.map(group => focusParts(table, filter, group.members))) : table.names.map((name, place) => [place]);
+    const lists = joined ? [].concat(...table.groups.map(group => focusParts(table, filter, group.members)))
+        : table.names.map((name, place) => [place]);
     return lists.map(members => ({
         members,
         bits: members.reduce((bits, member) => bits | filter.bits(table.names[member]), 0),

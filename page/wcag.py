@@ -68,8 +68,9 @@ if (document.documentElement.scrollWidth > innerWidth) faults.push('1.4.10 the p
 // 2.1.1: what scrolls can be reached by keys. 2.4.3: the order is that of the page.
 for (const made of all('*')) {
     const style = getComputedStyle(made);
-    const scrolls = /auto|scroll/.test(style.overflowX + style.overflowY) && (made.scrollHeight > made.clientHeight + 1 || made.scrollWidth > made.clientWidth + 1);
-    if (scrolls && made !== document.documentElement && made.tabIndex < 0 && !made.querySelector('button, [tabindex="0"], a')) fault('2.1.1', made, 'scrolls, but not by keys');
+    const isLarger = made.scrollHeight > made.clientHeight + 1 || made.scrollWidth > made.clientWidth + 1;
+    const scrolls = /auto|scroll/.test(style.overflowX + style.overflowY) && isLarger && made !== document.documentElement;
+    if (scrolls && made.tabIndex < 0 && !made.querySelector('button, [tabindex="0"], a')) fault('2.1.1', made, 'scrolls, but not by keys');
     if (made.tabIndex > 0) fault('2.4.3', made, 'has a place of its own in the order');
 }
 
