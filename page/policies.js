@@ -26,6 +26,12 @@ function readPolicies(app) {
     return new Map(Array.from(policies).sort(([one], [other]) => one < other ? -1 : 1));
 }
 
+// Whether the page has the answers about all pairs of workloads.
+function hasAllPairs({ table, explained }) {
+    const ends = table.names;
+    return explained.size >= ends.length && ends.every(one => ends.every(other => one === other || explained.has(one + ' ' + other)));
+}
+
 function policiesSection(app) {
     const policies = readPolicies(app);
     const names = Array.from(policies.keys());
@@ -33,7 +39,7 @@ function policiesSection(app) {
     const chooser = element('select', { id: 'policy', change: event => app.change({ policy: event.currentTarget.value }) },
         ...names.map(name => element('option', { value: name }, name)));
     if (chosen) chooser.value = chosen;
-    const isPartial = app.explained.size < app.table.names.length ** 2;
+    const isPartial = !hasAllPairs(app);
     return viewSection('policies', 'One policy', 'What a policy does', [element('label', {}, 'Policy ', chooser)],
         isPartial && hint('Of the ' + count(app.explained.size, 'pair', 'pairs')
             + ' of ends whose answers this page has; it is too large to have them all.'),

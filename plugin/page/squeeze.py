@@ -1,5 +1,5 @@
 """The page's script and style in as few bytes as go without another name for anything: without comments, indents, and spaces that
-separate nothing."""
+separate nothing. The one file of the plugin has them so, since it takes a while."""
 from __future__ import annotations
 
 import re
@@ -44,3 +44,10 @@ def squeeze_style(style: str) -> str:
     """The style, which means the same: it has no texts in which a space stands beside a sign."""
     lines = "\n".join(line.strip() for line in style.splitlines() if line.strip())
     return re.sub(r"\s*([{};,>])\s*", r"\1", lines.replace(": ", ":")).replace(";}", "}").replace("}", "}\n")
+
+
+def squeezed(name: str, part: bytes) -> bytes:
+    """A part of the page by its name: a script or a style is squeezed, and else it is as it was."""
+    ways = {".js": squeeze_script, ".css": squeeze_style}
+    way = ways.get(name[name.rfind("."):])
+    return way(part.decode()).encode() if way else part

@@ -7,7 +7,6 @@ from typing import TYPE_CHECKING, List, NamedTuple, Sequence, Tuple
 
 from plugin import parts, said
 from plugin.page.answers import Answers
-from plugin.page.squeeze import squeeze_script, squeeze_style
 from plugin.page.texts import listed, listed_lines, quoted
 from plugin.program import Program
 from plugin.room import Room
@@ -65,9 +64,12 @@ def write_page(program: Program, room: Room, request: Request) -> int:
 
 
 def join_parts(names: Sequence[str]) -> bytes:
-    """The files of these names in the folder page/, one behind the other, squeezed."""
-    text = "".join(parts.part("page/" + name).decode() for name in names)
-    return (squeeze_style if names is STYLES else squeeze_script)(text).encode()
+    """The files of these names in the folder page/, one behind the other, squeezed; in the one file of the plugin they are so already."""
+    found = [parts.part("page/" + name) for name in names]
+    if not parts.is_packed():
+        from plugin.page.squeeze import squeezed
+        found = [squeezed(name, part) for name, part in zip(names, found)]
+    return b"".join(found)
 
 
 def _html(data: bytes) -> bytes:
