@@ -1,6 +1,7 @@
 """What np answers about the objects of a snapshot."""
 from __future__ import annotations
 
+import os
 import subprocess
 import sys
 from typing import IO, Callable, List, cast
@@ -17,6 +18,9 @@ from plugin.said import Stop, decoded, relay
 
 # np reads 33,554,432 bytes at the most; one more is enough for it to refuse them.
 _MOST_READ = 33_554_433
+# np reads all objects for each answer of np explain. About ends between which nothing passes it is asked as long as it
+# reads no more bytes for that, which takes two or three seconds.
+_MOST_READ_AGAIN = 50_000_000
 
 
 class Answers:
@@ -53,7 +57,8 @@ class Answers:
     def explained(self, table: Table) -> bytes:
         """What np explain says of the ends that the table has it asked about. A workload of one pod is no two ends."""
         found = Explained(table.workloads.numbers)
-        for source, destination in table.asked.ends(table.workloads.texts, table.is_inside):
+        most = _MOST_READ_AGAIN // max(1, sum(os.path.getsize(copy) for copy in self._copies))
+        for source, destination in table.asked.ends(table.workloads.texts, table.is_inside, most):
             ended = self._program.run(self._words("explain", "--from", decoded(source), "--to", decoded(destination)))
             if source != destination or b"error: SameEnd " not in ended.said:
                 found.add(source, destination, _answered(ended).out)

@@ -72,12 +72,13 @@ class Asked:
             self._with_addresses.append(ends)
         self._sides.setdefault((workload, side), ends)
 
-    def ends(self, workloads: List[bytes], is_inside: List[bool]) -> List[Pair]:
-        """The ends to ask about, among these workloads; at least one of two is inside."""
-        if len(workloads) ** 2 + len(self._with_addresses) <= self.MOST_IN_ALL:
+    def ends(self, workloads: List[bytes], is_inside: List[bool], most: int) -> List[Pair]:
+        """The ends to ask about, among these workloads; at least one of two is inside. Of those between which nothing
+        passes there are so many at the most."""
+        if len(workloads) ** 2 + len(self._with_addresses) <= min(most, self.MOST_IN_ALL):
             every = [(source, destination) for source, sends in zip(workloads, is_inside)
                      for destination, receives in zip(workloads, is_inside) if sends or receives]
             return list(dict.fromkeys(self._passing + every + self._with_addresses))
         few = [rows for rows in (self._passing, self._from_addresses) if len(rows) <= self.MOST]
         sides = list(self._sides.values())
-        return list(dict.fromkeys((few[0] if few else []) + (sides if len(sides) <= 2 * self.MOST else [])))
+        return list(dict.fromkeys((few[0] if few else []) + (sides if len(sides) <= min(most, 2 * self.MOST) else [])))
