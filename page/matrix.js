@@ -18,10 +18,10 @@ function keptWorkloads(table, filter) {
 }
 
 // The parts that lines are made of: equal workloads, of one namespace, or of several where there are too many for that.
-function matrixParts(table, kept) {
-    const byNamespace = table.groups.map(group => {
+function matrixParts(table, kept, focus) {
+    const byNamespace = [].concat(...table.groups.map(group => focusParts(table, focus, group.members))).map(members => {
         const parts = new Map();
-        for (const member of group.members) {
+        for (const member of members) {
             if (kept && !kept.has(member)) continue;
             const namespace = table.namespaces[member];
             if (!parts.has(namespace)) parts.set(namespace, []);
@@ -45,8 +45,8 @@ function matrixParts(table, kept) {
 }
 
 // The lines that are shown: what is toggled is open where it is closed at first, and closed where it is open.
-function matrixLines(table, toggled, kept) {
-    const { closed, sections } = matrixParts(table, kept);
+function matrixLines(table, { toggled, focus }, kept) {
+    const { closed, sections } = matrixParts(table, kept, focus);
     const lines = [];
     for (const { namespace, parts } of sections) {
         const key = 'namespace ' + namespace;
@@ -185,7 +185,7 @@ function outsideCell(table, filter, from, to) {
 function makeMatrix(app) {
     const { table, state } = app;
     const filter = makeFilter(state);
-    const lines = matrixLines(table, state.toggled, filter.narrow && keptWorkloads(table, filter));
+    const lines = matrixLines(table, state, filter.narrow && keptWorkloads(table, filter));
     const outside = { kind: 'addresses', label: 'addresses', full: 'addresses' };
     const controller = { kind: 'through', label: CONTROLLER, full: CONTROLLER };
     const some = table.groups.some(group => group.through);
@@ -292,7 +292,7 @@ function headingRow(app, namespace, columns) {
     const label = namespace === '' ? 'equal in several namespaces' : namespace;
     return element('tr', { class: 'heading' }, element('th', { scope: 'rowgroup', colspan: columns + 1 },
         namespace === '' ? label : element('button', { type: 'button', class: 'toggle', 'data-key': 'namespace ' + namespace,
-            'aria-expanded': 'true', title: 'Close the namespace',
+            'aria-expanded': 'true', title: 'Close ' + namespace,
             click: () => toggle(app, 'namespace ' + namespace) }, '▾ ' + cutMiddle(label, nameLetters()))));
 }
 

@@ -58,7 +58,7 @@ function keepsText(filter, text, bits) {
 
 // The ends of rows: each workload by itself, or each group of equal ones by its members.
 function makeEnds(table, filter, joined) {
-    const lists = joined ? [].concat(...table.groups.map(group => focusParts(table, filter, group.members)))
+    const lists = joined ? [].concat(...table.groups.map(group => focusParts(table, filter.focus, group.members)))
         : table.names.map((name, place) => [place]);
     return lists.map(members => ({
         members,
@@ -70,8 +70,8 @@ function makeEnds(table, filter, joined) {
 }
 
 // A workload that is looked at stands by itself, whichever others are equal to it.
-function focusParts(table, filter, members) {
-    const place = table.place.get(filter.focus);
+function focusParts(table, focus, members) {
+    const place = table.place.get(focus);
     return members.length > 1 && members.includes(place) ? [[place], members.filter(member => member !== place)] : [members];
 }
 

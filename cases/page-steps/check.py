@@ -46,6 +46,8 @@ def check_focus(browser, checks):
     browser.open("page.html", "#view=list&focus=shop/web[Pod]&sort=workloads")
     rest = "shop/api[Pod] and 1 equal to it"
     checks.same("who is looked at", browser.rows(), [["shop/web[Pod]", rest, "All Connections"], [rest, "shop/web[Pod]", "All Connections"]])
+    checks.same("and in the matrix", browser.run("change({ view: 'matrix' }); return app.matrix.senders.map(line => line.full)"), ["shop/web[Pod]", rest, "addresses"])
+    browser.run("change({ view: 'list' })")
     checks.same("of np's rows", browser.texts("#view .count"), ["2 lines, which are 4 rows of np"])
 
 
