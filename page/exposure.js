@@ -38,8 +38,8 @@ function exposureSection(app) {
 function exposureRow(row) {
     return element('tr', {},
         element('td', {}, levelSign(row.connections)),
-        element('td', { class: 'end' }, row.source),
-        element('td', { class: 'end' }, row.destination),
+        element('td', { class: 'end' }, ...breakable(row.source)),
+        element('td', { class: 'end' }, ...breakable(row.destination)),
         element('td', { class: 'connections' }, row.connections));
 }
 

@@ -1,7 +1,7 @@
 // The picture of one workload: who sends to it stands at its left, what it sends to at its right, addresses and Ingresses below them. A
 // star needs no layout to be worked out, so no library draws it.
 
-const BOX = { width: 340, height: 46, gap: 10, middle: 300, column: 110 };
+const BOX = { height: 46, gap: 10, middle: 300, column: 110 };
 const MOST_BOXES = 30;
 
 function neighbours(table, workload) {
@@ -45,6 +45,11 @@ function keptNeighbours({ table, state }, { senders, receivers }) {
     return { senders: senders.filter(isKept), receivers: receivers.filter(isKept) };
 }
 
+// A box is as wide as there is room, so that long names are cut as little as can be.
+function boxWidth() { return Math.round(Math.max(340, Math.min(760, (innerWidth - 60 - BOX.middle - 2 * BOX.column) / 2))); }
+
+function boxLetters() { return Math.floor((boxWidth() - 8) / 7.9); }
+
 function graphSection(app) {
     const { table, state } = app;
     const workload = table.place.get(state.focus);
@@ -83,8 +88,8 @@ function starDrawing(app, name, near, outside) {
     const inner = Math.max(steps(left, near.senders), steps(right, near.receivers), 1);
     const outer = Math.max(steps(leftOut, outside.senders), steps(rightOut, outside.receivers));
     const top = 40, height = top + (inner + outer) * step + (outer ? 50 : 10);
-    const width = 2 * (BOX.width + BOX.column) + BOX.middle;
-    const centre = { x: BOX.width + BOX.column, y: top + Math.max(0, (inner * step - BOX.gap - BOX.height) / 2), width: BOX.middle };
+    const width = 2 * (boxWidth() + BOX.column) + BOX.middle;
+    const centre = { x: boxWidth() + BOX.column, y: top + Math.max(0, (inner * step - BOX.gap - BOX.height) / 2), width: BOX.middle };
     const rightX = centre.x + BOX.middle + BOX.column;
     const boxes = [], lines = [];
     const place = (list, whole, x, y, side) => {
@@ -132,15 +137,15 @@ function starBox(app, box, x, y) {
     };
     return drawing('g', attributes,
         drawing('title', {}, box.label + ' : ' + box.text + (box.members ? ' (double click, or f: its own picture)' : '')),
-        drawing('rect', { x, y, width: BOX.width, height: BOX.height, rx: 6 }),
-        drawing('text', { x: x + 10, y: y + 19 }, cutMiddle(box.label, 42)),
-        drawing('text', { x: x + 10, y: y + 37, class: 'passes' }, cutMiddle(box.text, 42)));
+        drawing('rect', { x, y, width: boxWidth(), height: BOX.height, rx: 6 }),
+        drawing('text', { x: x + 10, y: y + 19 }, cutMiddle(box.label, boxLetters())),
+        drawing('text', { x: x + 10, y: y + 37, class: 'passes' }, cutMiddle(box.text, boxLetters())));
 }
 
 // The line of a box and its head; thick where everything passes, broken where some does.
 function starLine(box, x, y, centre, side) {
     const middle = y + BOX.height / 2, target = centre.y + BOX.height / 2;
-    const start = side === 'left' ? x + BOX.width : centre.x + centre.width;
+    const start = side === 'left' ? x + boxWidth() : centre.x + centre.width;
     const end = side === 'left' ? centre.x : x;
     const startY = side === 'left' ? middle : target, endY = side === 'left' ? target : middle;
     const bend = (end - start) / 2;
