@@ -120,13 +120,9 @@ function changesSection(app) {
     const changes = app.changes.filter(change => changeKept(filter, change));
     const head = ['change', 'source', 'destination', 'before', 'after'];
     const texts = change => [change.sort, change.source, change.destination, change.before, change.after];
-    return element('section', { class: 'changes', 'aria-label': 'Changes' },
-        element('div', { class: 'bar' },
-            element('h2', {}, 'What changed'),
-            element('span', { class: 'count', role: 'status' }, changeCounts(changes)),
-            copyButton('Copy as CSV', () => csvOf(head, changes.map(texts)))),
-        !changes.length && element('p', { class: 'hint' },
-            app.changes.length ? 'No change is kept by the filter.' : 'Both snapshots have the same rows.'),
+    return viewSection('changes', 'Changes', 'What changed',
+        [told(changeCounts(changes)), copyButton('Copy as CSV', () => csvOf(head, changes.map(texts)))],
+        !changes.length && hint(app.changes.length ? 'No change is kept by the filter.' : 'Both snapshots have the same rows.'),
         ...['opened', 'closed', 'changed'].map(sort => changesOfSort(app, sort, changes.filter(change => change.sort === sort))));
 }
 
@@ -138,15 +134,11 @@ function changeCounts(changes) {
 
 function changesOfSort(app, sort, changes) {
     if (!changes.length) return null;
-    const head = ['', 'From', 'To', 'Before', 'After'].map(text => element('th', { scope: 'col' }, text));
     return element('div', {},
         element('h3', {}, CHANGE_WORDS[sort] + ' (' + count(changes.length, 'line', 'lines') + ')'),
-        element('table', { class: 'rows-table', 'aria-label': CHANGE_WORDS[sort] }, element('thead', {}, element('tr', {}, ...head)),
+        element('table', { class: 'rows-table', 'aria-label': CHANGE_WORDS[sort] }, rowsHead(['', 'From', 'To', 'Before', 'After']),
             element('tbody', {}, ...changes.slice(0, app.listed).map(change => changeRow(app, change)))),
-        changes.length > app.listed && element('button', { type: 'button', class: 'more', click: () => {
-            app.listed += LIST_PART * 5;
-            app.draw();
-        } }, 'Show more'));
+        changes.length > app.listed && moreButton(app));
 }
 
 // A change of two workloads, or of a range, opens the row as it is now.
@@ -154,17 +146,6 @@ function changeRow(app, change) {
     const place = change.from && change.from === change.to && change.destination === 'each other' ? 1 : 0;
     const from = change.from ? change.from[0] : change.kind === 'through' ? CONTROLLER : 'addresses';
     const to = change.to ? change.to[place] : 'addresses';
-    const open = () => app.change({ from, to });
-    const attributes = {
-        tabindex: 0,
-        'data-ends': endsKey(from, to),
-        click: open,
-        keydown: event => { if (event.key === 'Enter') open(); },
-    };
-    return element('tr', attributes,
-        element('td', {}, element('span', { class: 'sign change-' + change.sort, title: change.sort }, CHANGE_SIGNS[change.sort])),
-        element('td', { class: 'end' }, change.source),
-        element('td', { class: 'end' }, change.destination),
-        element('td', { class: 'connections' }, change.before),
-        element('td', { class: 'connections' }, change.after));
+    const sign = element('span', { class: 'sign change-' + change.sort, title: change.sort }, CHANGE_SIGNS[change.sort]);
+    return openingRow(app, [from, to], [sign, change.source, change.destination, change.before, change.after]);
 }

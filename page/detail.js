@@ -15,17 +15,6 @@ function explainCommands(from, to) {
     return commands;
 }
 
-// The answers of np explain that stand in the page, by their ends.
-function readExplained(lines) {
-    const answers = new Map();
-    let answer = [];
-    for (const line of lines) {
-        if (line.startsWith('ends ')) answers.set(line.slice(5), answer = []);
-        else answer.push(line);
-    }
-    return answers;
-}
-
 // The rows of np with the two ends, each the name of a workload, a range, the controller, or 'addresses' for all ranges.
 function rowsOfEnds(table, from, to) {
     const source = table.place.get(from), destination = table.place.get(to);
@@ -44,7 +33,7 @@ function rowsOfEnds(table, from, to) {
         .map(row => ({ source: side === 0 ? row.range : from, destination: side === 0 ? to : row.range, connections: row.text }));
 }
 
-function rowLine(row) { return row.source + ' => ' + row.destination + ' : ' + row.connections; }
+function rowLine(row) { return endShown(row.source) + ' => ' + endShown(row.destination) + ' : ' + row.connections; }
 
 // The workloads of an end of a cell: one, or all of a namespace; undefined for an end outside.
 function endMembers(table, end) {
@@ -78,8 +67,9 @@ function manyDetail(app, from, to) {
         element('p', {}, ...Array.from(new Set(namespaces)).map(end => element('button', { type: 'button',
             click: () => toggle(app, end) }, 'Open or close ' + end))),
         element('h3', {}, rows.length ? 'Rows in which something passes (' + rows.length.toLocaleString('en') + ')' : 'Nothing passes'),
-        element('table', { class: 'rows-table', 'aria-label': 'Rows' }, element('tbody', {}, ...rows.slice(0, LIST_PART).map(row => listRow(app, row)))),
-        rows.length > LIST_PART && element('p', { class: 'hint' }, 'The first ' + LIST_PART + ' are shown; the list has all of them.'));
+        rows.length > 0 && element('table', { class: 'rows-table', 'aria-label': 'Rows' }, rowsHead(['', 'From', 'To', 'Connections']),
+            element('tbody', {}, ...rows.slice(0, LIST_PART).map(row => listRow(app, row)))),
+        rows.length > LIST_PART && hint('The first ' + LIST_PART + ' are shown; the list has all of them.'));
 }
 
 function detailOf(app, from, to) {
@@ -94,18 +84,15 @@ function detailOf(app, from, to) {
     const shown = rows.length ? rows : [{ source: from, destination: to, connections: NOTHING }];
     return element('div', { class: 'detail-body' },
         element('h3', {}, 'Connections'),
-        element('ul', { class: 'rows' }, ...shown.map(row => element('li', {}, element('code', {}, rowLine(row))))),
+        codeLines(shown.map(rowLine)),
         ...decidingPart(app, from, to, rows),
+        ...caveatPart(table, from, to),
         ...exposurePart(app, from, 1, 'New pods that ' + from + ' may send to'),
         ...exposurePart(app, to, 0, 'New pods that may send to ' + to));
 }
 
 function decidingPart(app, from, to, rows) {
-    if (from === CONTROLLER) {
-        return [element('h3', {}, 'What decides'), element('p', { class: 'hint' },
-            'The controller of Ingresses is no workload that is known here, so np explain has no end for it. '
-            + 'What the workload lets in stands below; np list --controller NAME names the controller.')];
-    }
+    if (from === CONTROLLER) return [element('h3', {}, 'What decides'), ...controllerPart(app, to)];
     const ends = rows.length ? rows : [{ source: from, destination: to }];
     const asked = [];
     for (const row of ends) {
@@ -116,33 +103,40 @@ function decidingPart(app, from, to, rows) {
     const left = asked.length - MOST_EXPLAINED;
     return [element('h3', {}, 'What decides'),
         ...asked.slice(0, MOST_EXPLAINED).map(pair => explained(app, pair.one, pair.other)),
-        left > 0 && element('p', { class: 'hint' },
-            count(left, 'more range is', 'more ranges are') + ' not explained here; each is a row of the list.')];
+        left > 0 && hint(count(left, 'more range is', 'more ranges are') + ' not explained here; each is a row of the list.')];
+}
+
+// Of what comes through Ingresses, only what a controller of a known name may send can be explained.
+function controllerPart(app, to) {
+    if (!page.controller) {
+        return [hint('The controller of Ingresses is no workload that is known here, so np explain has no end for it. '
+            + 'What the workload lets in stands below; --controller NAME names the controller.')];
+    }
+    return [hint('The controller is ' + page.controller + '. Of what it may send, the ports to which an Ingress leads pass:'),
+        explained(app, page.controller, to)];
 }
 
 function explained(app, from, to) {
     const answer = app.explained.get(from + ' ' + to);
     return element('div', { class: 'explained' },
         answer ? element('pre', { class: 'answer' }, ...answer.map(line => element('span', { class: deciderClass(line) }, line + '\n')))
-            : page.explain ? page.explain(from, to)
-                : element('p', { class: 'hint' }, 'The rule is named by np, for every port and at both ends:'),
+            : page.explain ? page.explain(from, to) : isolationPart(app, from, to),
         ...explainCommands(from, to).map(command => element('div', { class: 'command' },
             element('code', {}, command), copyButton('Copy', command))));
 }
 
-function deciderClass(line) {
-    if (line.includes(' : Allow by ') && !line.endsWith(' : Allow by default')) return 'rule';
-    if (line.includes(' : Deny by ')) return 'denied';
-    return line.startsWith('ingress of ') || line.startsWith('egress of ') ? 'side' : '';
+// Where the page has no answer about two ends: the policies that isolate either, which answers about other ends name.
+function isolationPart(app, from, to) {
+    const lines = ['egress of ' + from, 'ingress of ' + to].filter(side => app.isolation.has(side))
+        .map(side => side + ' : isolated by NetworkPolicy ' + app.isolation.get(side).join(', '));
+    return element('div', {},
+        lines.length && hint('Without a rule that allows it nothing passes here, since policies isolate a side:'),
+        lines.length && element('pre', { class: 'answer isolation' }, lines.map(line => line + '\n').join('')),
+        hint('The rule is named by np, for every port and at both ends:'));
 }
 
-function exposurePart(app, name, side, title) {
-    const { table } = app;
-    if (!table.place.has(name)) return [];
-    if (app.refused) return [element('h3', {}, title), element('p', { class: 'hint' }, app.refused)];
-    const rows = exposureRows(table, table.place.get(name), side);
-    if (!rows.length) return [];
-    return [element('h3', {}, title), element('ul', { class: 'rows' }, ...rows.map(row => element('li', {}, element('code', {},
-        side === 0 ? rowLine({ source: row.end, destination: name, connections: row.text })
-            : rowLine({ source: name, destination: row.end, connections: row.text })))))];
+function deciderClass(line) {
+    if (line.includes(' : Allow by ') && !line.endsWith(' : Allow by default')) return 'rule';
+    if (line.includes(' : Deny ')) return 'denied';
+    return line.startsWith('ingress of ') || line.startsWith('egress of ') ? 'side' : '';
 }

@@ -1,7 +1,7 @@
 // The picture of one workload: who sends to it stands at its left, what it sends to at its right, addresses and Ingresses below them. A
 // star needs no layout to be worked out, so no library draws it.
 
-const BOX = { width: 340, height: 46, gap: 10, middle: 300, column: 110 };
+const BOX = { height: 46, gap: 10, middle: 300, column: 110 };
 const MOST_BOXES = 30;
 
 function neighbours(table, workload) {
@@ -30,28 +30,40 @@ function outsideNeighbours(table, workload) {
     const through = table.texts[table.groups[table.groupOf[workload]].through]
         .map(({ text }) => ({ label: CONTROLLER, text, from: CONTROLLER, to: name }));
     return {
-        senders: passing(0).map(row => ({ label: row.range, text: row.text, from: row.range, to: name })).concat(through),
-        receivers: passing(1).map(row => ({ label: row.range, text: row.text, from: name, to: row.range })),
+        senders: passing(0).map(row => ({ label: endShown(row.range), text: row.text, from: row.range, to: name })).concat(through),
+        receivers: passing(1).map(row => ({ label: endShown(row.range), text: row.text, from: name, to: row.range })),
     };
 }
 
-function cutText(text, most) { return text.length <= most ? text : text.slice(0, most - 1) + '…'; }
+// Those that the filter keeps.
+function keptNeighbours({ table, state }, { senders, receivers }) {
+    const filter = makeFilter(state);
+    const inNamespace = box => !filter.namespace || namespaceOf(state.focus) === filter.namespace
+        || box.members && box.members.some(member => table.namespaces[member] === filter.namespace);
+    const isKept = box => inNamespace(box)
+        && keepsText(filter, box.text, filter.bits(box.from) | filter.bits(box.to) | filter.bits(box.label));
+    return { senders: senders.filter(isKept), receivers: receivers.filter(isKept) };
+}
+
+// A box is as wide as there is room, so that long names are cut as little as can be.
+function boxWidth() { return Math.round(Math.max(340, Math.min(760, (innerWidth - 60 - BOX.middle - 2 * BOX.column) / 2))); }
+
+function boxLetters() { return Math.floor((boxWidth() - 8) / 7.9); }
 
 function graphSection(app) {
     const { table, state } = app;
     const workload = table.place.get(state.focus);
     const chooser = element('label', {}, 'Workload ', focusInput(app));
     if (workload === undefined) {
-        return element('section', { class: 'graph', 'aria-label': 'Picture' },
-            element('div', { class: 'bar' }, element('h2', {}, 'One workload'), chooser),
-            element('p', { class: 'hint' }, state.focus
+        return viewSection('graph', 'Picture', 'One workload', [chooser],
+            hint(state.focus
                 ? 'No workload has that name.'
                 : 'Choose a workload to see who sends to it and what it sends to.'));
     }
-    const near = neighbours(table, workload), outside = outsideNeighbours(table, workload);
-    return element('section', { class: 'graph', 'aria-label': 'Picture of ' + state.focus },
-        element('div', { class: 'bar' }, element('h2', {}, 'One workload'), chooser),
-        element('div', { class: 'scroll' }, starDrawing(app, state.focus, near, outside)));
+    const [near, outside] = [neighbours(table, workload), outsideNeighbours(table, workload)].map(sides => keptNeighbours(app, sides));
+    return viewSection('graph', 'Picture of ' + state.focus, 'One workload',
+        [chooser, zoomControl(app), savePicture(state.focus.replace(/[^A-Za-z0-9._-]+/g, '-'))],
+        shownPicture(app, starDrawing(app, state.focus, near, outside)));
 }
 
 function focusInput(app) {
@@ -76,8 +88,8 @@ function starDrawing(app, name, near, outside) {
     const inner = Math.max(steps(left, near.senders), steps(right, near.receivers), 1);
     const outer = Math.max(steps(leftOut, outside.senders), steps(rightOut, outside.receivers));
     const top = 40, height = top + (inner + outer) * step + (outer ? 50 : 10);
-    const width = 2 * (BOX.width + BOX.column) + BOX.middle;
-    const centre = { x: BOX.width + BOX.column, y: top + Math.max(0, (inner * step - BOX.gap - BOX.height) / 2), width: BOX.middle };
+    const width = 2 * (boxWidth() + BOX.column) + BOX.middle;
+    const centre = { x: boxWidth() + BOX.column, y: top + Math.max(0, (inner * step - BOX.gap - BOX.height) / 2), width: BOX.middle };
     const rightX = centre.x + BOX.middle + BOX.column;
     const boxes = [], lines = [];
     const place = (list, whole, x, y, side) => {
@@ -104,7 +116,7 @@ function starDrawing(app, name, near, outside) {
         drawing('g', { class: 'centre' },
             drawing('rect', { x: centre.x, y: centre.y, width: BOX.middle, height: BOX.height, rx: 6 }),
             drawing('text', { x: centre.x + BOX.middle / 2, y: centre.y + 28, 'text-anchor': 'middle' },
-                cutText(name, 36), drawing('title', {}, name))));
+                cutMiddle(name, 36), drawing('title', {}, name))));
 }
 
 function starBox(app, box, x, y) {
@@ -119,21 +131,21 @@ function starBox(app, box, x, y) {
         click: open,
         dblclick: () => box.members && focus(),
         keydown: event => {
-            if (event.key === 'Enter' || event.key === ' ') { event.preventDefault(); open(); }
+            byKey(open)(event);
             if (event.key === 'f' && box.members) { event.stopPropagation(); focus(); }
         },
     };
     return drawing('g', attributes,
         drawing('title', {}, box.label + ' : ' + box.text + (box.members ? ' (double click, or f: its own picture)' : '')),
-        drawing('rect', { x, y, width: BOX.width, height: BOX.height, rx: 6 }),
-        drawing('text', { x: x + 10, y: y + 19 }, cutText(box.label, 42)),
-        drawing('text', { x: x + 10, y: y + 37, class: 'passes' }, cutText(box.text, 42)));
+        drawing('rect', { x, y, width: boxWidth(), height: BOX.height, rx: 6 }),
+        drawing('text', { x: x + 10, y: y + 19 }, cutMiddle(box.label, boxLetters())),
+        drawing('text', { x: x + 10, y: y + 37, class: 'passes' }, cutMiddle(box.text, boxLetters())));
 }
 
 // The line of a box and its head; thick where everything passes, broken where some does.
 function starLine(box, x, y, centre, side) {
     const middle = y + BOX.height / 2, target = centre.y + BOX.height / 2;
-    const start = side === 'left' ? x + BOX.width : centre.x + centre.width;
+    const start = side === 'left' ? x + boxWidth() : centre.x + centre.width;
     const end = side === 'left' ? centre.x : x;
     const startY = side === 'left' ? middle : target, endY = side === 'left' ? target : middle;
     const bend = (end - start) / 2;

@@ -3,6 +3,7 @@
 const LIST_PART = 200;
 // What a spreadsheet takes.
 const MOST_CSV = 1000000;
+const ROW_HEAD = ['source', 'destination', 'connections'];
 
 function levelSign(text) {
     if (text === NOTHING) return element('span', { class: 'sign none', title: 'nothing passes' }, '·');
@@ -19,22 +20,27 @@ function listSection(app) {
         + (joined && taken.total !== taken.lines ? ', which are ' + count(taken.total, 'row', 'rows') + ' of np' : '')
         + (taken.rows.length < taken.lines ? '; the first ' + taken.rows.length.toLocaleString('en') + ' are shown' : '');
     const copyLabel = taken.total > MOST_CSV ? 'Copy the first ' + count(MOST_CSV, 'row', 'rows') + ' as CSV' : 'Copy as CSV';
-    const head = ['', 'From', 'To', 'Connections'].map(text => element('th', { scope: 'col' }, text));
-    return element('section', { class: 'list', 'aria-label': 'List of rows' },
-        element('div', { class: 'bar' },
-            element('h2', {}, 'Rows'),
-            element('span', { class: 'count', role: 'status' }, said),
-            copyButton(copyLabel, () => listCsv(app))),
-        app.table.only && element('p', { class: 'hint' },
-            'This page has the rows with an end in the namespace ' + app.table.only + ' alone.'),
+    return viewSection('list', 'List of rows', 'Rows', [told(said), copyButton(copyLabel, () => listCsv(app))],
+        app.table.only && hint('This page has the rows with an end in the namespace ' + app.table.only + ' alone.'),
+        ...isReach(filter) ? unknownPart() : [],
         element('table', { class: 'rows-table', 'aria-label': 'Rows' },
-            element('thead', {}, element('tr', {}, ...head)),
+            rowsHead(['', 'From', 'To', 'Connections']),
             element('tbody', {}, ...taken.rows.map(row => listRow(app, row)))),
-        !taken.lines && element('p', { class: 'hint' }, 'No row is kept by the filter.'),
-        taken.rows.length < taken.lines && element('button', { type: 'button', class: 'more', click: () => {
-            app.listed += LIST_PART * 5;
-            app.draw();
-        } }, 'Show ' + Math.min(LIST_PART * 5, taken.lines - taken.rows.length).toLocaleString('en') + ' more'));
+        !taken.lines && hint('No row is kept by the filter.'),
+        taken.rows.length < taken.lines && moreButton(app));
+}
+
+function moreButton(app) {
+    return element('button', { type: 'button', class: 'more', click: () => { app.listed += LIST_PART * 5; app.draw(); } }, 'Show more');
+}
+
+function isReach(filter) { return filter.sort === SORTS.reach; }
+
+// Behind what is reached: the workloads of which that is not known.
+function unknownPart() {
+    const caveats = unknownReached();
+    return caveats.length ? [hint('Ingresses lead to these too, but who the Ingress controller is was not said '
+        + '(--controller NAME), so it is not known whether it is let in:'), caveatLines(caveats)] : [];
 }
 
 // The ends that a row opens: of a group its first workload, and its second where both ends are the group.
@@ -46,23 +52,27 @@ function endsOfRow(table, row) {
 }
 
 function listRow(app, row) {
-    const [from, to] = endsOfRow(app.table, row);
+    return openingRow(app, endsOfRow(app.table, row), [levelSign(row.connections), row.source, row.destination, row.connections]);
+}
+
+// A row of a table that opens its ends: a sign, the two ends, and texts.
+function openingRow(app, [from, to], [sign, source, destination, ...texts]) {
     const open = () => app.change({ from, to });
     return element('tr', { 'data-ends': endsKey(from, to), tabindex: 0, click: open, keydown: event => {
-        if (event.key === 'Enter' || event.key === ' ') { event.preventDefault(); open(); }
+        byKey(open)(event);
         if (event.key === 'ArrowDown' || event.key === 'ArrowUp') {
             const next = event.key === 'ArrowDown' ? event.currentTarget.nextElementSibling : event.currentTarget.previousElementSibling;
             if (next) { event.preventDefault(); next.focus(); }
         }
     } },
-    element('td', {}, levelSign(row.connections)),
-    element('td', { class: 'end' }, ...breakable(row.source)),
-    element('td', { class: 'end' }, ...breakable(row.destination)),
-    element('td', { class: 'connections' }, row.connections));
+    element('td', {}, sign),
+    element('td', { class: 'end' }, ...breakable(endShown(source))),
+    element('td', { class: 'end' }, ...breakable(endShown(destination))),
+    ...texts.map(text => element('td', { class: 'connections' }, text)));
 }
 
 // The rows that the filter keeps, each of np's by itself.
 function listCsv(app) {
     const taken = takeRows(app.table, makeFilter(app.state), false, MOST_CSV);
-    return csvOf(['source', 'destination', 'connections'], taken.rows.map(row => [row.source, row.destination, row.connections]));
+    return csvOf(ROW_HEAD, taken.rows.map(row => [row.source, row.destination, row.connections]));
 }

@@ -3,71 +3,32 @@
 // What is shown, as np answered it, and the state of the page; both are there once `show` is called.
 let page = null, app = null;
 
+const WORDS = ['search'], WHICH = ['search', 'namespace', 'protocol', 'port'];
+const EVERY = [...WHICH, 'sort', 'passing', 'joined', 'cidrs', 'focus'];
+
+// The filters of a view are those that leave something out of it.
 const VIEWS = [
-    { name: 'matrix', label: 'Matrix', sections: [matrixSection], beside: [listSection] },
-    { name: 'list', label: 'List', sections: [listSection], beside: [] },
-    { name: 'graph', label: 'One workload', sections: [graphSection], beside: [listSection] },
-    { name: 'changes', label: 'Changes', sections: [changesSection], beside: [], needs: app => app.before },
-    { name: 'exposure', label: 'New pods', sections: [exposureSection], beside: [] },
-    { name: 'unused', label: 'Unused rules', sections: [unusedSection], beside: [] },
+    { name: 'matrix', label: 'Matrix', sections: [matrixSection], beside: [listSection], filters: EVERY },
+    { name: 'list', label: 'List', sections: [listSection], beside: [], filters: EVERY },
+    { name: 'graph', label: 'One workload', sections: [graphSection], beside: [listSection], filters: EVERY },
+    { name: 'overview', label: 'Whole cluster', sections: [overviewSection], beside: [], filters: WHICH },
+    { name: 'changes', label: 'Changes', sections: [changesSection], beside: [], filters: [...WHICH, 'sort', 'cidrs', 'focus'],
+        needs: app => app.before },
+    { name: 'exposure', label: 'New pods', sections: [exposureSection], beside: [], filters: [...WHICH, 'focus'] },
+    { name: 'policies', label: 'Policies', sections: [policiesSection], beside: [], needs: () => page.explained },
+    { name: 'unused', label: 'Unused rules', sections: [unusedSection], beside: [], filters: WORDS },
+    { name: 'caveats', label: 'Caveats', sections: [caveatsSection], beside: [], filters: WORDS, needs: () => page.caveats.length },
 ];
 
-// ---- What new pods would reach, and the rules that decide nothing
-
-function exposureSection() {
-    const { table, state } = app;
-    const filter = makeFilter(state);
-    if (app.refused) {
-        return element('section', { class: 'exposure' },
-            element('h2', {}, 'New pods'),
-            element('p', { class: 'hint' }, app.refused));
-    }
-    const rows = [];
-    table.names.forEach((name, workload) => {
-        if (filter.namespace && table.namespaces[workload] !== filter.namespace || filter.focus && filter.focus !== name) return;
-        const put = (source, destination, connections) => {
-            const kept = keepsText(filter, connections, filter.bits(source) | filter.bits(destination));
-            if (kept) rows.push({ source, destination, connections });
-        };
-        for (const row of exposureRows(table, workload, 0)) put(row.end, name, row.text);
-        for (const row of exposureRows(table, workload, 1)) put(name, row.end, row.text);
-    });
-    const texts = row => [row.source, row.destination, row.connections];
-    return element('section', { class: 'exposure', 'aria-label': 'New pods' },
-        element('div', { class: 'bar' },
-            element('h2', {}, 'New pods'),
-            element('span', { class: 'count', role: 'status' }, count(rows.length, 'row', 'rows')),
-            copyButton('Copy as CSV', () => csvOf(['source', 'destination', 'connections'], rows.map(texts)))),
-        element('p', { class: 'hint' },
-            'What each workload allows a pod that nobody has written yet. Of a workload and a direction, the first row whose '
-            + 'requirements the pod meets is its verdict'
-            + (state.passing ? '; rows where nothing passes are hidden by the filter, and count all the same.' : '.')),
-        element('table', { class: 'rows-table', 'aria-label': 'New pods' },
-            element('tbody', {}, ...rows.slice(0, app.listed).map(exposureRow))),
-        rows.length > app.listed && moreButton());
-}
-
-function exposureRow(row) {
-    return element('tr', {},
-        element('td', {}, levelSign(row.connections)),
-        element('td', { class: 'end' }, row.source),
-        element('td', { class: 'end' }, row.destination),
-        element('td', { class: 'connections' }, row.connections));
-}
-
-function moreButton() {
-    return element('button', { type: 'button', class: 'more', click: () => { app.listed += LIST_PART * 5; draw(); } }, 'Show more');
-}
+// ---- The rules that decide nothing
 
 function unusedSection() {
     const rules = page.unused.filter(rule => wordBits(makeFilter(app.state).words, rule) === makeFilter(app.state).full);
-    return element('section', { class: 'unused', 'aria-label': 'Unused rules' },
-        element('div', { class: 'bar' }, element('h2', {}, 'Rules that decide nothing'),
-            element('span', { class: 'count', role: 'status' }, count(rules.length, 'rule', 'rules')),
-            copyButton('Copy', () => rules.map(rule => rule + '\n').join(''))),
-        element('p', { class: 'hint' }, 'Without all of them at once no verdict changes between the listed pods, or between them and an '
+    return viewSection('unused', 'Unused rules', 'Rules that decide nothing',
+        [told(count(rules.length, 'rule', 'rules')), copyButton('Copy', () => rules.map(rule => rule + '\n').join(''))],
+        hint('Without all of them at once no verdict changes between the listed pods, or between them and an '
             + 'address. Places count from 0.'),
-        element('ul', { class: 'rows' }, ...rules.map(rule => element('li', {}, element('code', {}, rule)))));
+        codeLines(rules));
 }
 
 // ---- The top
@@ -88,13 +49,18 @@ function fact(text, patch) {
 function facts() {
     const { table } = app;
     const namespaces = new Set(table.namespaces).size;
-    const groups = table.groups.length;
+    const groups = table.groups.length, unknown = unknownReached().length;
     return element('p', { class: 'facts' },
         fact(count(table.names.length, 'workload', 'workloads') + ' in ' + count(namespaces, 'namespace', 'namespaces')
             + (groups < table.names.length ? ', ' + count(groups, 'kind', 'kinds') + ' of equal rows' : '')),
-        fact('Reached from addresses or Ingresses: ' + count(outsideCount(), 'workload', 'workloads'), { view: 'list', sort: 'reach' }),
+        fact('Reached from addresses or Ingresses: ' + count(outsideCount(), 'workload', 'workloads')
+            + (unknown ? ', and ' + unknown + ' where it is not known' : ''), { view: 'list', sort: 'reach' }),
         fact(count(page.unused.length, 'rule decides', 'rules decide') + ' nothing', { view: 'unused' }),
-        app.before && fact(changeCounts(app.changes), { view: 'changes' }));
+        app.before && fact(changeCounts(app.changes), { view: 'changes' }),
+        page.caveats.length > 0 && fact(count(page.caveats.length, 'caveat', 'caveats'), { view: 'caveats' }),
+        page.controller && fact('Ingress controller: ' + page.controller),
+        page.source !== page.title[0] && fact(page.source),
+        fact('Made ' + page.made + ' by np ' + page.np));
 }
 
 function option(value, label) { return element('option', { value }, label); }
@@ -110,10 +76,11 @@ function control(name, made) {
 
 function toolbar() {
     const namespaces = Array.from(new Set(app.table.namespaces)).sort();
-    const labelled = (label, made) => element('label', {}, label + ' ', made);
+    const labelled = (label, made) => element('label', { 'data-filter': made.id.slice(7) }, label + ' ', made);
     const search = element('input', { type: 'search', placeholder: 'name, port, address ( / )', autocomplete: 'off' });
     const options = names => names.map(name => option(name, name));
-    const check = (name, label) => element('label', { class: 'check' }, control(name, element('input', { type: 'checkbox' })), label);
+    const check = (name, label) => element('label', { class: 'check', 'data-filter': name },
+        control(name, element('input', { type: 'checkbox' })), label);
     const reset = () => change(Object.assign({}, START, { view: app.state.view }));
     return element('form', { class: 'toolbar', role: 'search', submit: event => event.preventDefault() },
         labelled('Search', control('search', search)),
@@ -121,15 +88,19 @@ function toolbar() {
         labelled('Rows', control('sort', element('select', {}, ...Object.keys(SORTS).map(name => option(name, SORTS[name].label))))),
         labelled('Protocol', control('protocol', element('select', {}, option('', 'any'), ...options(['TCP', 'UDP', 'SCTP'])))),
         labelled('Port', control('port', element('input', { type: 'number', min: 1, max: 65535 }))),
-        check('passing', ' only what passes'),
-        app.table.groups.length < app.table.names.length && check('joined', ' equal workloads as one line'),
-        element('span', { id: 'focused' }),
+        check('passing', 'only what passes'),
+        app.table.groups.length < app.table.names.length && check('joined', 'equal workloads as one line'),
+        app.table.ranges.some(range => range.includes(',')) && check('cidrs', 'ranges as CIDRs'),
+        element('span', { id: 'focused', 'data-filter': 'focus' }),
         element('button', { type: 'button', id: 'reset', click: reset }, 'Reset'),
         copyButton('Copy link', () => location.href));
 }
 
-function showControls() {
-    for (const name of ['search', 'namespace', 'sort', 'protocol', 'port', 'passing', 'joined']) {
+// The controls have the values of the state, and only those that filter the view are there.
+function showControls(filters) {
+    for (const made of document.querySelectorAll('[data-filter]')) made.hidden = !filters.includes(made.dataset.filter);
+    document.getElementById('reset').hidden = !filters.length;
+    for (const name of EVERY) {
         const made = document.getElementById('filter-' + name);
         if (!made) continue;
         if (made.type === 'checkbox') made.checked = app.state[name];
@@ -161,10 +132,19 @@ function keysHelp() {
 
 // ---- Drawing
 
+// What is looked at is a place to which Back goes back. Each letter that is typed is none.
+function keepState(names) {
+    const typed = names.every(name => name === 'search' || name === 'port') && names.join();
+    const link = writeState(app.state);
+    const isSame = typed && typed === app.typed || link === location.hash;
+    app.typed = typed;
+    try { history[isSame ? 'replaceState' : 'pushState'](null, '', link); } catch (error) { location.hash = link; }
+}
+
 function change(patch) {
     const opened = Object.keys(patch).every(name => name === 'from' || name === 'to');
     app.state = Object.assign({}, app.state, patch);
-    try { history.replaceState(null, '', writeState(app.state)); } catch (error) { location.hash = writeState(app.state); }
+    keepState(Object.keys(patch));
     if (opened) drawDetail();
     else draw();
 }
@@ -176,7 +156,7 @@ function draw() {
     for (const button of document.querySelectorAll('button.view')) {
         button.setAttribute('aria-current', button.dataset.view === view.name ? 'page' : 'false');
     }
-    showControls();
+    showControls(view.filters || []);
     if (page.terminal) showTerminal(page.terminal(view.name, app.state));
     document.getElementById('view').replaceChildren(...view.sections.map(section => section(app)));
     document.getElementById('beside').replaceChildren(...view.beside.map(section => section(app)));
@@ -206,7 +186,8 @@ function drawDetail() {
         title: 'Esc',
         click: () => change({ from: '', to: '' }),
     }, '×');
-    detail.append(element('div', { class: 'bar' }, element('h2', {}, from + ' → ' + to), close), detailOf(app, from, to));
+    const heading = element('h2', {}, endShown(from) + ' → ' + endShown(to));
+    detail.append(element('div', { class: 'bar' }, heading, close), detailOf(app, from, to));
     const cell = document.body.dataset.view === 'matrix' && openedCell(app, app.matrix);
     if (cell) cell.classList.add('opened');
     for (const made of document.querySelectorAll('[data-ends]')) {
@@ -233,11 +214,13 @@ function pressed(event) {
 function makeApp() {
     const before = page.before && readTable(page.before);
     const table = readTable(page.table);
+    const explained = readExplained(page.explained, table.names);
     return {
         table,
         before,
         changes: before ? changesBetween(before, table) : [],
-        explained: readExplained(page.explained),
+        explained,
+        isolation: readIsolation(explained),
         refused: page.refused.length ? 'np does not show what new pods would reach here: ' + page.refused.join(' ') : '',
         listed: LIST_PART,
         state: readState(location.hash),
@@ -273,7 +256,8 @@ function show(answered) {
     build();
     if (isFirst) {
         document.addEventListener('keydown', pressed);
-        window.addEventListener('hashchange', () => { app.state = readState(location.hash); draw(); });
+        listenForPrint();
+        window.addEventListener('hashchange', () => { app.state = readState(location.hash); app.typed = ''; draw(); });
     }
     draw();
 }

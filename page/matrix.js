@@ -3,7 +3,6 @@
 
 const MANY_LINES = 60;
 const MOST_LINES = 150;
-const MOST_LABELLED = 4000;
 const SIGNS = ['·', '◐', '●'];
 const LEVEL_WORDS = ['nothing passes', 'some passes', 'everything passes'];
 const LEVEL_CLASSES = ['none', 'some', 'all'];
@@ -19,10 +18,10 @@ function keptWorkloads(table, filter) {
 }
 
 // The parts that lines are made of: equal workloads, of one namespace, or of several where there are too many for that.
-function matrixParts(table, kept) {
-    const byNamespace = table.groups.map(group => {
+function matrixParts(table, kept, focus) {
+    const byNamespace = [].concat(...table.groups.map(group => focusParts(table, focus, group.members))).map(members => {
         const parts = new Map();
-        for (const member of group.members) {
+        for (const member of members) {
             if (kept && !kept.has(member)) continue;
             const namespace = table.namespaces[member];
             if (!parts.has(namespace)) parts.set(namespace, []);
@@ -46,8 +45,8 @@ function matrixParts(table, kept) {
 }
 
 // The lines that are shown: what is toggled is open where it is closed at first, and closed where it is open.
-function matrixLines(table, toggled, kept) {
-    const { closed, sections } = matrixParts(table, kept);
+function matrixLines(table, { toggled, focus }, kept) {
+    const { closed, sections } = matrixParts(table, kept, focus);
     const lines = [];
     for (const { namespace, parts } of sections) {
         const key = 'namespace ' + namespace;
@@ -186,7 +185,7 @@ function outsideCell(table, filter, from, to) {
 function makeMatrix(app) {
     const { table, state } = app;
     const filter = makeFilter(state);
-    const lines = matrixLines(table, state.toggled, filter.narrow && keptWorkloads(table, filter));
+    const lines = matrixLines(table, state, filter.narrow && keptWorkloads(table, filter));
     const outside = { kind: 'addresses', label: 'addresses', full: 'addresses' };
     const controller = { kind: 'through', label: CONTROLLER, full: CONTROLLER };
     const some = table.groups.some(group => group.through);
@@ -222,17 +221,18 @@ function matrixSection(app) {
     grid.addEventListener('keydown', event => moveInMatrix(app, matrix, event));
     grid.addEventListener('mouseover', event => tellCell(matrix, event));
     grid.addEventListener('focusin', event => tellCell(matrix, event));
-    if (matrix.senders.length * matrix.receivers.length <= MOST_LABELLED) labelCells(matrix);
+    labelCells(matrix);
     const first = grid.querySelector('tbody td:not(.left-out)');
     if (first) first.tabIndex = 0;
+    const scroll = element('div', { class: 'scroll' }, grid);
+    scroll.style.setProperty('--zoom', ZOOMS.includes(app.state.zoom) ? app.state.zoom / 100 : 1);
     const nothing = app.table.names.length ? 'Nothing that passes is kept by the filter.' : 'The cluster has no workloads.';
-    return element('section', { class: 'matrix', 'aria-label': 'Matrix' },
-        element('div', { class: 'bar' }, element('h2', {}, 'Who reaches whom'), legend()),
-        matrix.left > 0 && element('p', { class: 'hint' }, count(matrix.left, 'line is', 'lines are') + ' not shown here: '
+    return viewSection('matrix', 'Matrix', 'Who reaches whom', [legend(), zoomControl(app)],
+        matrix.left > 0 && hint(count(matrix.left, 'line is', 'lines are') + ' not shown here: '
             + 'close namespaces that are open, choose a namespace, or read the list.'),
         matrix.senders.length && matrix.receivers.length
-            ? element('div', { class: 'scroll' }, grid)
-            : element('p', { class: 'hint' }, nothing));
+            ? element('div', {}, scroll, element('div', { class: 'sheets' }))
+            : hint(nothing));
 }
 
 function legend() {
@@ -247,7 +247,7 @@ function matrixHead(app, matrix) {
         element('th', { class: 'corner' }, element('span', {}, 'from ↓   to →')),
         ...matrix.receivers.map((line, c) => element('th', { scope: 'col', class: columnClass(matrix.receivers, c, app), title: line.full },
             element('span', { class: 'turned' },
-                line.kind === 'namespace' || !line.members || line.namespace === '' ? line.label : line.namespace + '/' + line.label))));
+                cutMiddle(sheetName(line), 24)))));
 }
 
 // Whether a column begins a namespace, where it is not among closed ones.
@@ -292,8 +292,16 @@ function headingRow(app, namespace, columns) {
     const label = namespace === '' ? 'equal in several namespaces' : namespace;
     return element('tr', { class: 'heading' }, element('th', { scope: 'rowgroup', colspan: columns + 1 },
         namespace === '' ? label : element('button', { type: 'button', class: 'toggle', 'data-key': 'namespace ' + namespace,
-            'aria-expanded': 'true', title: 'Close the namespace',
-            click: () => toggle(app, 'namespace ' + namespace) }, '▾ ' + label)));
+            'aria-expanded': 'true', title: 'Close ' + namespace,
+            click: () => toggle(app, 'namespace ' + namespace) }, '▾ ' + cutMiddle(label, nameLetters()))));
+}
+
+// How many letters of a name there is room for.
+function nameLetters() { return innerWidth < 600 ? 20 : innerWidth < 1800 ? 36 : 56; }
+
+// The label of a line, with the number of the workloads of a namespace.
+function lineLabel(line, letters) {
+    return cutMiddle(line.label, letters) + (line.kind === 'namespace' ? ' (' + line.members.length.toLocaleString('en') + ')' : '');
 }
 
 function lineHead(app, line) {
@@ -306,7 +314,7 @@ function lineHead(app, line) {
             'data-key': line.key,
             'aria-expanded': 'false',
             click: () => toggle(app, line.key),
-        }, '▸ ' + line.label + (line.kind === 'namespace' ? ' (' + line.members.length.toLocaleString('en') + ')' : '')),
+        }, '▸ ' + lineLabel(line, nameLetters())),
         closes && element('button', {
             type: 'button',
             class: 'toggle',
@@ -320,12 +328,11 @@ function lineHead(app, line) {
             class: 'name',
             title: 'Picture of ' + line.full,
             click: () => app.change({ view: 'graph', focus: line.full }),
-        }, line.label),
+        }, lineLabel(line, nameLetters())),
         !line.members && line.label);
 }
 
-// A cell has as little as can be: there may be ten thousand of them. What it says in words is told when it is pointed at, and from the
-// start where there are few.
+// A cell has as little as can be: there may be twenty thousand of them.
 function matrixCell(cell, edge) {
     const made = document.createElement('td');
     made.className = (cell === null ? 'left-out' : LEVEL_CLASSES[cell.level]) + edge;
@@ -384,11 +391,7 @@ const STEPS = { ArrowRight: [0, 1], ArrowLeft: [0, -1], ArrowDown: [1, 0], Arrow
 function moveInMatrix(app, matrix, event) {
     const place = placeOfEvent(matrix, event);
     if (!place) return;
-    if (event.key === 'Enter' || event.key === ' ') {
-        event.preventDefault();
-        openCell(app, matrix, place.r, place.c);
-        return;
-    }
+    byKey(() => openCell(app, matrix, place.r, place.c))(event);
     const step = STEPS[event.key];
     if (!step) return;
     event.preventDefault();
@@ -406,7 +409,5 @@ function moveInMatrix(app, matrix, event) {
 
 function tellCell(matrix, event) {
     const place = placeOfEvent(matrix, event);
-    if (!place || place.cell.title) return;
-    place.cell.title = cellWords(matrix, place.r, place.c);
-    place.cell.setAttribute('aria-label', place.cell.title);
+    if (place) place.cell.title = place.cell.getAttribute('aria-label');
 }

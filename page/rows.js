@@ -38,7 +38,8 @@ function makeFilter(state) {
     const full = (1 << words.length) - 1;
     const kept = new Map();
     const bits = text => {
-        if (!kept.has(text)) kept.set(text, wordBits(words, text));
+        const isRange = text.includes('/') && text.includes(',');
+        if (!kept.has(text)) kept.set(text, wordBits(words, isRange ? text + ' ' + rangeEnds(text) : text));
         return kept.get(text);
     };
     const ports = new Map();
@@ -57,7 +58,8 @@ function keepsText(filter, text, bits) {
 
 // The ends of rows: each workload by itself, or each group of equal ones by its members.
 function makeEnds(table, filter, joined) {
-    const lists = joined ? table.groups.map(group => group.members) : table.names.map((name, place) => [place]);
+    const lists = joined ? [].concat(...table.groups.map(group => focusParts(table, filter.focus, group.members)))
+        : table.names.map((name, place) => [place]);
     return lists.map(members => ({
         members,
         bits: members.reduce((bits, member) => bits | filter.bits(table.names[member]), 0),
@@ -65,6 +67,12 @@ function makeEnds(table, filter, joined) {
         inFocus: !filter.focus || members.some(member => table.names[member] === filter.focus),
         text: endText(table, members),
     }));
+}
+
+// A workload that is looked at stands by itself, whichever others are equal to it.
+function focusParts(table, focus, members) {
+    const place = table.place.get(focus);
+    return members.length > 1 && members.includes(place) ? [[place], members.filter(member => member !== place)] : [members];
 }
 
 function endText(table, members) {

@@ -12,6 +12,9 @@ const START = {
     sort: 'all',
     passing: true,
     joined: true,
+    cidrs: false,
+    zoom: '100',
+    policy: '',
     toggled: [],
 };
 
@@ -24,7 +27,7 @@ function readState(hash) {
         let value;
         try { value = decodeURIComponent(part.slice(equals + 1)); } catch (error) { continue; }
         if (name === 'toggled') state.toggled = value.split('|').filter(Boolean);
-        else if (name === 'passing' || name === 'joined') state[name] = value !== 'no';
+        else if (typeof START[name] === 'boolean') state[name] = value !== 'no';
         else if (Object.prototype.hasOwnProperty.call(START, name)) state[name] = value;
     }
     // A link that only names a workload shows its picture.

@@ -157,8 +157,9 @@ class Page(Command):
         given = self.page_words
         caveats = [caveat for caveat in self.caveats.all
                    if not caveat.is_noted and not (given.controller and caveat.key == "controller-not-named")]
-        request = Request(files=[str(self.list)], before=given.before, title=given.title or self._title(), only=given.only,
-                          commands=[(self._explain(), "")], caveats=told.summary(caveats), controller=given.controller)
+        source = self._title()
+        request = Request(files=[str(self.list)], before=given.before, title=given.title or source, source=source, only=given.only,
+                          commands=[(self._explain(), "")], caveats=caveats, controller=given.controller)
         status = write_page(self.program, self.room, request)
         told.tell(caveats)
         return status

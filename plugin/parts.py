@@ -16,6 +16,11 @@ def folder() -> Path:
     return home if home.is_dir() else home.parent
 
 
+def is_packed() -> bool:
+    """Whether the plugin runs from its one file."""
+    return not os.path.isdir(_HOME)
+
+
 def part(name: str) -> bytes:
     """The bytes of a file by its path from the top of the repository."""
     loader = globals()["__loader__"]

@@ -5,7 +5,8 @@ tools/plugin_archive.py             writes kubectl-np
 tools/plugin_archive.py --check     says with status 1 that kubectl-np is not what its parts give, or may not be executed
 
 It is a zip that Python runs, with a first line that names Python. The same parts give the same bytes on every machine and with every
-version of Python: nothing is compressed, names are sorted, and times and modes are fixed. The names in it are those of the repository.
+version of Python: nothing is compressed, names are sorted, and times and modes are fixed. The names in it are those of the repository,
+and the parts are those that stand there, but for what plugin/page/squeeze.py leaves out of scripts and styles.
 """
 from __future__ import annotations
 
@@ -17,6 +18,10 @@ from pathlib import Path
 from typing import Dict, List
 
 TOP = Path(os.path.abspath(__file__)).parent.parent
+sys.dont_write_bytecode = True
+sys.path.insert(0, str(TOP))
+
+from plugin.page.squeeze import squeezed  # noqa: E402
 
 _USAGE = "usage: tools/plugin_archive.py [--check]"
 _FIRST_LINE = b"#!/usr/bin/env -S python3 -IS -X utf8\n"
@@ -39,7 +44,7 @@ def parts(top: Path) -> Dict[str, bytes]:
     found = {"__main__.py": _MAIN}
     for pattern in _PATTERNS:
         for path in top.glob(pattern):
-            found[path.relative_to(top).as_posix()] = path.read_bytes()
+            found[path.relative_to(top).as_posix()] = squeezed(path.name, path.read_bytes())
     return found
 
 

@@ -54,7 +54,7 @@ def main():
         checks.same("one change", browser.run(CHANGES), [["changed", "default/a[Pod]", "default/b[Pod]", "TCP 80", "TCP 80,443"]])
         make_page("page.html", "--before=before.json", "--", "after.json")
         browser.open("page.html")
-        browser.click(".facts a:last-child")
+        browser.click(".facts a[href*='view=changes']")
         told = browser.run(CHANGES)
         checks.same("between workloads", sorted(change for change in told if all("[" in end for end in change[1:3])),
                     wanted_changes(rows_of("list", "before.json"), rows_of("list", "after.json")))

@@ -34,7 +34,7 @@ def check_example(browser, checks, path):
     name = os.path.basename(path)
     make_page("page.html", path)
     table = rows_of("list", path)
-    browser.open("page.html", "#view=list&passing=no&joined=no")
+    browser.open("page.html", "#view=list&passing=no&joined=no&cidrs=yes")
     checks.same(name + ": rows", browser.rows(), table)
     checks.same(name + ": CSV", browser.run("return listCsv(app)"), np("list", "--format", "csv", path))
     browser.run("change({ view: 'exposure' })")

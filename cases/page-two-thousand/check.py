@@ -57,7 +57,7 @@ def check_own(browser, checks):
                 [["team-07/p0149[Pod]", "team-07/p0150[Pod]", "addresses"], ["team-07/p0150[Pod]", "team-07/p0151[Pod]"]])
     table = rows_of("list", "own.json")
     end = "team-07/p0150[Pod]"
-    browser.open("own.html", "#view=list&passing=no&focus=" + end)
+    browser.open("own.html", "#view=list&passing=no&cidrs=yes&focus=" + end)
     checks.same("the rows of one workload", browser.rows(), [row for row in table if end in row])
     checks.same("all rows", browser.run("return takeRows(app.table, makeFilter(Object.assign({}, START, { passing: false })), false, 0).lines"), len(table))
 

@@ -59,7 +59,7 @@ function askForm(question) {
     const form = element('form', { class: 'ask-form', submit: send }, ...fields.map(field => field.made),
         element('button', { type: 'submit', class: 'primary' }, 'Ask np'));
     fields.forEach(({ input }, place) => { if (question.fields[place].text !== undefined) input.addEventListener('input', typed); });
-    return element('div', {}, element('p', { class: 'hint' }, question.hint), form, answer);
+    return element('div', {}, hint(question.hint), form, answer);
 }
 
 // What np answered: its report, what it said, how it ended, and the command line.
@@ -69,8 +69,7 @@ function answerParts(words, files, given) {
         commandPart(words, saves),
         given.report && element('pre', { class: 'answer report', tabindex: 0, 'aria-label': 'The report' },
             ...reportLines(given.report.replace(/\n$/, ''))),
-        given.isCut && element('p', { class: 'hint' },
-            'The first ' + sizeText(given.report.length) + ' of ' + sizeText(given.length) + ' are shown.'),
+        given.isCut && hint('The first ' + sizeText(given.report.length) + ' of ' + sizeText(given.length) + ' are shown.'),
         given.said && element('pre', { class: given.status ? 'answer fault' : 'answer said' }, given.said),
         element('p', { class: 'ended', 'data-status': given.status }, endingText(given)),
         given.report && element('p', { class: 'after' }, copyButton('Copy the report', () => given.report),
@@ -100,19 +99,11 @@ function commandPart(words, saves) {
     return element('div', { class: 'command' }, element('code', { class: 'line' }, line), copyButton('Copy', line), ...saves || []);
 }
 
-function saveButton(label, name, bytes) {
-    return element('button', { type: 'button', class: 'copy', click: () => {
-        const link = element('a', { href: URL.createObjectURL(new Blob([bytes()])), download: name });
-        link.click();
-        setTimeout(() => URL.revokeObjectURL(link.href), 60000);
-    } }, label);
-}
-
 // The objects that np refused, and what to do.
 function faultParts(side, said) {
     const advice = adviceOf(said);
     return [
-        advice && element('p', { class: 'hint' }, advice),
+        advice && hint(advice),
         ...faultyObjects(side, said).map(({ number, name, object }) => element('details', { class: 'faulty', open: true },
             element('summary', {}, 'Object ' + number + ', ' + objectName(object) + ', of ' + name),
             element('pre', { class: 'answer', tabindex: 0 }, JSON.stringify(object, null, 2).slice(0, 20000)))),
@@ -137,8 +128,7 @@ function askTabs() {
 function askSection() {
     if (!asked.made) {
         const question = QUESTIONS.find(one => one.command === asked.command);
-        asked.made = element('section', { class: 'ask', 'aria-label': 'Ask np' },
-            element('div', { class: 'bar' }, element('h2', {}, 'Ask np')), askTabs(), askForm(question));
+        asked.made = viewSection('ask', 'Ask np', 'Ask np', [], askTabs(), askForm(question));
     }
     return asked.made;
 }
@@ -146,7 +136,7 @@ function askSection() {
 // What decides between two ends, asked when a cell or a row is opened.
 function explainLive(from, to) {
     const words = ['explain', '--from', from, '--to', to].concat(namesOf('now'));
-    const made = element('div', { class: 'live', 'aria-live': 'polite' }, element('p', { class: 'hint' }, 'np explain is asked ..'));
+    const made = element('div', { class: 'live', 'aria-live': 'polite' }, hint('np explain is asked ..'));
     runner.ask({ words, files: filesOf('now'), most: memoryMost(), isStale: () => !made.isConnected }).then(given => {
         if (given.isStale) return;
         made.replaceChildren(given.status === 0

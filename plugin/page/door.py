@@ -30,7 +30,8 @@ def main() -> int:
     said.speaker = "np-page"
     children.catch_signals()
     words, files = _read_words(sys.argv[1:])
-    request = Request(files=files, before=words.before, title=words.title or _title(files, words.before), only=words.only,
+    source = _title(files, words.before)
+    request = Request(files=files, before=words.before, title=words.title or source, source=source, only=words.only,
                       controller=words.controller,
                       commands=[("./np explain", _words_of_files(files)), ("kubectl np explain", "")])
     with Room() as room:

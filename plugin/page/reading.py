@@ -65,6 +65,8 @@ class ListReader:
             self._read_addresses(destination, RECEIVED, by, connections)
         elif self._table.is_inside[destination]:
             self._table.through[destination] = connections
+            if self._table.controller:
+                self._table.asked.add(self._table.controller, to, is_from_addresses=True)
 
     # Rows between workloads.
 
@@ -151,12 +153,7 @@ class ListReader:
     def _read_addresses(self, workload: int, side: int, addresses: bytes, connections: int) -> None:
         if self._table.is_inside[workload]:
             self._table.ranges.add(workload, side, addresses, connections)
-            if connections:
-                name, address = self._names[workload], addresses.partition(b"/")[0]
-                if side == RECEIVED:
-                    self._table.asked.add(address, name, is_from_addresses=True)
-                else:
-                    self._table.asked.add(name, address)
+            self._table.asked.add_address(self._names[workload], side, addresses.partition(b"/")[0], bool(connections))
 
 
 def _refuse_name(row: Row) -> NoReturn:

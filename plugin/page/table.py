@@ -13,12 +13,14 @@ from plugin.said import encoded, stop
 class Table:
     """The rows of a snapshot, by the numbers of the workloads and of what passes (0: nothing).
 
-    `only` is the one namespace whose rows are kept: those with an end in it (empty: all). The workloads are named
-    first, by `read_exposure` or `read_names`; `reading` then adds the rows of np list.
+    `only` is the one namespace whose rows are kept: those with an end in it (empty: all). `controller` is the workload
+    that sends what comes through Ingresses (empty: it is not known). The workloads are named first, by `read_exposure`
+    or `read_names`; `reading` then adds the rows of np list.
     """
 
-    def __init__(self, only: str) -> None:
+    def __init__(self, only: str, controller: str = "") -> None:
         self._only = only
+        self.controller = encoded(controller)
         self.workloads = Numbered()
         self.is_inside: List[bool] = []  # whether a workload is in the namespace whose rows are kept
         self.matrix = Matrix(0)
