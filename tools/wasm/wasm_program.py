@@ -41,12 +41,22 @@ _FOR_WASM = """
 _FOR_C = ["-O2", "-fwrapv", "-ffreestanding", "-nostdinc", "-Wall", "-x", "c"]
 
 # What a module says of its target, and what those say that rattle makes for wasm64. The builtins are the functions of a C library that
-# clang would call by itself, and that are not there.
+# clang would call by itself, and that are not there. Of instructions the module names one of x86-64 alone, which shuffles 16 bytes: a place
+# is the low four bits of a byte, and no place where its highest bit is set, which gives 0. WebAssembly's own gives 0 for places past 15.
 _LAYOUT = "e-m:e-p:64:64-p10:8:8-p20:8:8-i64:64-i128:128-n32:64-S128-ni:1:10:20"
 _EDITS = [
     (r'(?m)^target datalayout = ".*"$', 'target datalayout = "%s"' % _LAYOUT),
     (r'(?m)^target triple = ".*"$', 'target triple = "wasm64-unknown-unknown"'),
-    (r'"target-cpu"="x86-64[^"]*"', '"no-builtin-bcmp" "no-builtin-memcmp" "no-builtin-strlen" "target-cpu"="lime1"'),
+    (r'"target-cpu"="x86-64[^"]*"',
+     '"no-builtin-bcmp" "no-builtin-memcmp" "no-builtin-strlen" "target-cpu"="lime1" "target-features"="+simd128"'),
+    (r"@llvm\.x86\.ssse3\.pshuf\.b\.128", "@np.shuffled_bytes"),
+    (r"(?m)^declare <16 x i8> @np\.shuffled_bytes\(.*$", """\
+define internal <16 x i8> @np.shuffled_bytes(<16 x i8> %bytes, <16 x i8> %places) "target-cpu"="lime1" "target-features"="+simd128" {
+  %within = and <16 x i8> %places, splat (i8 -113)
+  %shuffled = call <16 x i8> @llvm.wasm.swizzle(<16 x i8> %bytes, <16 x i8> %within)
+  ret <16 x i8> %shuffled
+}
+declare <16 x i8> @llvm.wasm.swizzle(<16 x i8>, <16 x i8>)"""),
 ]
 
 # More than a run was seen to take: the least of natively is 84 kB (docs/use/INPUT.md).
@@ -54,7 +64,7 @@ _STACK = 8 << 20
 
 
 def _retargeted(text: str) -> str:
-    """A module in LLVM's text, for wasm64 in place of x86-64. No instruction is changed."""
+    """A module in LLVM's text, for wasm64 in place of x86-64. One instruction is changed: that of x86-64 which shuffles bytes."""
     for pattern, new in _EDITS:
         text, count = re.subn(pattern, new, text)
         if not count:
