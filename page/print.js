@@ -25,7 +25,8 @@ function sheetName(line) {
     return !line.members || line.kind === 'namespace' || line.namespace === '' ? line.label : line.namespace + '/' + line.label;
 }
 
-// The number of each line and column, since many names are alike where they are cut. A line and a column of the same workloads have the same.
+// The number of each line and column, since many names are alike where they are cut. A line and a column of the same workloads have
+// the same.
 function lineNumbers(matrix) {
     const numbers = new Map();
     for (const line of matrix.senders.concat(matrix.receivers)) if (!numbers.has(line.full)) numbers.set(line.full, numbers.size + 1);

@@ -83,7 +83,8 @@ for (const made of all('button, a[href], input, select, summary, [role=button], 
 // 2.5.3: who says what stands on a button means that button.
 for (const made of all('button[aria-label], a[aria-label]')) {
     const text = made.textContent.trim();
-    if (/[a-z]{2}/i.test(text) && !made.getAttribute('aria-label').includes(text)) fault('2.5.3', made, 'is called otherwise than it reads');
+    if (/[a-z]{2}/i.test(text) && !made.getAttribute('aria-label').includes(text))
+        fault('2.5.3', made, 'is called otherwise than it reads');
 }
 
 // 3.1.1, 2.4.2 and 4.1.2: the language and the title, names that are there once.
@@ -96,14 +97,16 @@ for (const made of all('td[tabindex], tbody td')) {
 }
 for (const made of all('[aria-controls], [aria-labelledby], [aria-describedby]')) {
     for (const name of ['aria-controls', 'aria-labelledby', 'aria-describedby']) {
-        for (const id of (made.getAttribute(name) || '').split(' ').filter(Boolean)) if (!names.includes(id)) fault('4.1.2', made, name + ' names nothing');
+        for (const id of (made.getAttribute(name) || '').split(' ').filter(Boolean))
+            if (!names.includes(id)) fault('4.1.2', made, name + ' names nothing');
     }
 }
 return Array.from(new Set(faults));
 """
 
 # The roles that need a name, as the browser tells them to a screen reader.
-NAMED = {"button", "link", "checkbox", "combobox", "textbox", "searchbox", "spinbutton", "grid", "table", "image", "img", "region", "ComboBoxSelect", "listbox"}
+NAMED = {"button", "link", "checkbox", "combobox", "textbox", "searchbox", "spinbutton", "grid", "table", "image", "img", "region",
+         "ComboBoxSelect", "listbox"}
 
 
 def nameless(browser):
@@ -126,8 +129,10 @@ def focus_faults(browser, tab, count):
             const style = getComputedStyle(made), box = made.getBoundingClientRect();
             const name = made.tagName + ' ' + (made.getAttribute('aria-label') || made.textContent).slice(0, 40);
             if (style.outlineStyle === 'none' || parseFloat(style.outlineWidth) < 2) return '2.4.7 the focus is not seen: ' + name;
-            const at = document.elementFromPoint(Math.min(innerWidth - 1, box.left + Math.min(box.width, 40) / 2), box.top + box.height / 2);
-            return at && (made.contains(at) || at.contains(made) || at.closest('label')) ? '' : '2.4.11 what has the focus is covered: ' + name;
+            const across = Math.min(innerWidth - 1, box.left + Math.min(box.width, 40) / 2);
+            const at = document.elementFromPoint(across, box.top + box.height / 2);
+            const seen = at && (made.contains(at) || at.contains(made) || at.closest('label'));
+            return seen ? '' : '2.4.11 what has the focus is covered: ' + name;
         """)
         found += [fault] if fault else []
     return found

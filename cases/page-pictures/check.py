@@ -31,7 +31,7 @@ def check_width(browser, checks):
     for width in (1400, 2200):
         resize(browser, width)
         browser.open("large.html")
-        (left, right), (begin, end) = browser.run(BOXES, ".matrix .scroll")[0], browser.run(BOXES, "#side")[0]
+        (_, right), (begin, end) = browser.run(BOXES, ".matrix .scroll")[0], browser.run(BOXES, "#side")[0]
         is_cut = browser.run("const made = document.querySelector('.matrix .scroll'); return made.scrollWidth > made.clientWidth")
         checks.true("%d pixels: the matrix ends at %d, the list at %d" % (width, right, end), end > width - 60 and begin - right < 40)
         checks.true("%d pixels: %d for the list" % (width, end - begin), end - begin < 480 if is_cut else True)

@@ -3,7 +3,7 @@ import copy
 from typing import Any, Callable, Dict, List
 
 import clusters
-from cases import (ADDRESSES, CIDRS, COMMANDS, KNOWN, NUMBERS, OTHERS, POOL, TEXTS, Case, Place, Rng, asked, at, end, list_of,
+from cases import (ADDRESSES, CIDRS, COMMANDS, KNOWN, NUMBERS, OTHERS, POOL, TEXTS, Case, Place, Rng, asked, at, list_of,
                    mixed, names_in, options, places_in, put, spoil, spoilt_line, statement, statements, text_of)
 
 

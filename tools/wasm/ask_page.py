@@ -27,7 +27,8 @@ _LINE = 120
 
 _WORKER = ["ask/host.js", "ask/table.js", "ask/worker.js"]
 # Those of a made page, but for the last, which shows what the page already has.
-_SCRIPTS = [name for name in SCRIPTS if name != "shown.js"] + ["ask/%s.js" % name for name in ("runner", "inputs", "questions", "ask", "start")]
+_SCRIPTS = [name for name in SCRIPTS if name != "shown.js"] + [
+    "ask/%s.js" % name for name in ("runner", "inputs", "questions", "ask", "start")]
 _STYLES = ["page.css", "ask/ask.css"]
 
 

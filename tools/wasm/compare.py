@@ -25,7 +25,8 @@ _USAGE = "usage: tools/wasm/compare.py [--wasm FILE] chromium|firefox-esr [CASE.
 
 # What browsers are started with. The profile is a new folder, so that nothing of the machine's own is read.
 _BROWSERS = {
-    "chromium": ["chromium", "--headless=new", "--no-sandbox", "--disable-gpu", "--disable-dev-shm-usage", "--no-first-run", "--user-data-dir=%s"],
+    "chromium": ["chromium", "--headless=new", "--no-sandbox", "--disable-gpu", "--disable-dev-shm-usage", "--no-first-run",
+                 "--user-data-dir=%s"],
     "firefox-esr": ["firefox-esr", "--headless", "--no-remote", "--profile", "%s"],
 }
 
@@ -138,7 +139,8 @@ def compare(browser: str, wasm: Path, names: List[str]) -> int:
     server = ThreadingHTTPServer(("127.0.0.1", 0), handler_of(runs, wasm.read_bytes()))
     threading.Thread(target=server.serve_forever, daemon=True).start()
     top = "http://127.0.0.1:%d" % server.server_address[1]
-    with tempfile.TemporaryDirectory(ignore_cleanup_errors=True) if sys.version_info >= (3, 10) else tempfile.TemporaryDirectory() as profile:
+    lenient = {"ignore_cleanup_errors": True} if sys.version_info >= (3, 10) else {}
+    with tempfile.TemporaryDirectory(**lenient) as profile:
         child = start_browser(browser, profile, top)
         try:
             tested = dict(os.environ, NP_TESTED=str(HERE / "through"), NP_WASM_SERVER=top)
