@@ -12,7 +12,7 @@ use Rattle.np_check.proofs.RangeLemmas.{first_number-is}
 use Rattle.np_check.proofs.SpotLemmas.{breaks-same}
 use Rattle.np_conns.specs.Prelude.{Conns, has_spot}
 use Rattle.np_table.proofs.RangeWalks.{walk-right}
-use Rattle.np_table.proofs.SetLemmas.{has_spot-conns_of}
+use Rattle.np_conns.proofs.ConnLemmas.{conns_of-has}
 use Rattle.np_table.specs.Prelude.{AreRight, Stretch, address_row, four_of, rows_of_addresses, six_of, walk}
 
 -- ---- numbers from 0 on
@@ -119,7 +119,7 @@ by_stretches wanted conns address ranges passes least last from to count before 
     let same : (n : ℕ) → from ≤ n → n < from + own → broken_number wanted conns address ranges passes n ≡ broken_with address ranges spot n = λ n above below.
     ap (λ (s : Option PortSpot). broken_with address ranges s n)
     (breaks-same wanted conns (passes n) (has_spot stretch.conns)
-    (λ one is. sym (has_spot-conns_of (passes n) one is) ∙ ap (λ (c : Conns). has_spot c one) (are.0.conns n (omega arith) (omega arith)))) in
+    (λ one is. sym (conns_of-has (passes n) one is) ∙ ap (λ (c : Conns). has_spot c one) (are.0.conns n (omega arith) (omega arith)))) in
     let first : broken_stretch wanted conns address ranges stretch ≡ first_of (broken_number wanted conns address ranges passes) (range_with_len from own) =
     ap (λ (found : Option ℕ). with_spot (option_map address found) spot) (sym (first_number-is ranges least last stretch.lo stretch.hi own (omega arith) ascends))
     ∙ ap (λ (low : ℕ). with_spot (option_map address (find (holds (λ a. a) ranges) (range_with_len low own))) spot) start

@@ -8,13 +8,12 @@ use Rattle.np_check.specs.Prelude.{Allow, AreSettled, At, Deny, Ends, EstateList
 use Rattle.np_check.proofs.FirstLemmas.{first_of-append, first_of-map, first_of-none}
 use Rattle.np_check.proofs.NoneLemmas.{no_spots, none_all, none_at, none_map}
 use Rattle.np_check.proofs.SpotLemmas.{breaks-same}
-use Rattle.np_conns.specs.Prelude.{Conns, has_spot}
+use Rattle.np_conns.specs.Prelude.{Conns, conns_of, has_spot}
 use Rattle.np_model.specs.Prelude.{IsLawful, families_of}
 use Rattle.np_fold.specs.Prelude.{folding_of, members_of}
 use Rattle.np_kinds.proofs.KindNumbers.{kinds-by}
 use Rattle.np_kinds.proofs.PairLemmas.{pair_allows-kinds}
-use Rattle.np_table.proofs.SetLemmas.{has_spot-conns_of}
-use Rattle.np_table.specs.Prelude.{conns_of}
+use Rattle.np_conns.proofs.ConnLemmas.{conns_of-has}
 use Rattle.np_kinds.specs.Prelude.{IsWorkload, is_alone, pair_allows}
 
 -- ---- the first of a list in a loop
@@ -49,7 +48,7 @@ by_set : (lists : EstateLists) (wanted : Wanted) (conns passes : Conns) (a b : �
     first_spot (breaks wanted conns (has_spot passes)) ≡ first_spot (breaks wanted conns (pair_allows lists (folding_of lists) a b family))
 by_set lists wanted conns passes a b family is =
     breaks-same wanted conns (has_spot passes) (pair_allows lists (folding_of lists) a b family) (λ spot of.
-    ap (λ (set : Conns). has_spot set spot) is ∙ has_spot-conns_of (pair_allows lists (folding_of lists) a b family) spot of)
+    ap (λ (set : Conns). has_spot set spot) is ∙ conns_of-has (pair_allows lists (folding_of lists) a b family) spot of)
 
 pub in_family : (lists : EstateLists) (wanted : Wanted) (conns passes : Conns) (a b : ℕ) (family : Family) (found : Option PortSpot) →
     passes ≡ conns_of (pair_allows lists (folding_of lists) a b family) → found ≡ first_spot (breaks wanted conns (has_spot passes)) →

@@ -4,7 +4,8 @@ ghost use Rattle.np_addr.specs.declared.address.Family.{Family as SpecFamily};
 ghost use Rattle.np_check.specs.Counterexamples.{counterexample_of};
 ghost use Rattle.np_conns.specs.declared.port_spot.PortSpot.{PortSpot};
 ghost use Rattle.np_fold.specs.Prelude.{folding_of};
-ghost use Rattle.np_table.specs.Prelude.{address_rows, conns_of, estate_table};
+ghost use Rattle.np_table.specs.Prelude.{address_rows, estate_table};
+ghost use Rattle.np_conns.specs.Prelude.{conns_of};
 ghost use Rattle.np_kinds.specs.Prelude.{IsWorkload, is_alone, pair_allows};
 
 use crate::addresses::first_from_addresses;

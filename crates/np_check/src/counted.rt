@@ -2,7 +2,8 @@
 ghost use Rattle.std.specs.Prelude.{◌≡◌, ◌<◌, false, IfOk};
 ghost use Rattle.np_fold.specs.Prelude.{folding_of};
 ghost use Rattle.np_kinds.specs.Prelude.{IsWorkload, is_alone, pair_allows};
-ghost use Rattle.np_table.specs.Prelude.{address_rows, conns_of, estate_table};
+ghost use Rattle.np_table.specs.Prelude.{address_rows, estate_table};
+ghost use Rattle.np_conns.specs.Prelude.{conns_of};
 
 use np_addr::Family;
 use np_base::{NoMemory, Seq, Steps};

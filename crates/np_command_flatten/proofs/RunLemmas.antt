@@ -4,12 +4,12 @@ use Rattle.std.specs.List.{AllByRecursion}
 use Rattle.np_base.proofs.Each.{All-append}
 use Rattle.np_addr.specs.declared.address.Family.{Family}
 use Rattle.np_addr.specs.declared.address.Family.TheVariants.{Four, Six}
-use Rattle.np_conns.specs.Prelude.{Conns, IsRun}
+use Rattle.np_conns.specs.Prelude.{Conns, IsRun, conns_of}
 use Rattle.np_conns.specs.declared.port_spot.PortSpot.{PortSpot}
 use Rattle.np_command_flatten.specs.Prelude.{AddressRow, Sctp, Tcp, Udp}
 use Rattle.np_conns.proofs.RunLemmas.{IsRun-from_ascending, runs-ascend}
 use Rattle.np_table.proofs.RangeWalks.{walk-right}
-use Rattle.np_table.specs.Prelude.{AreRight, Stretch, address_row, conns_of, four_of, rows_of_addresses, six_of, walk}
+use Rattle.np_table.specs.Prelude.{AreRight, Stretch, address_row, four_of, rows_of_addresses, six_of, walk}
 use Rattle.np_command_flatten.proofs.ShapeLemmas.{all-mapped}
 
 -- runs of ports of each protocol

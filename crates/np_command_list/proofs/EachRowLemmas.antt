@@ -19,8 +19,9 @@ use Rattle.np_routes.specs.Prelude.{all_ingress_rows, cluster_rows, cluster_tabl
 use Rattle.np_routes.proofs.ClusterLemmas.{estate-names}
 use Rattle.np_kinds.proofs.MemberLemmas.{destination-member, member-number, members-some, members-within, source-member}
 use Rattle.np_kinds.proofs.PairLemmas.{pair_allows-alone, pair_allows-between}
-use Rattle.np_table.proofs.SetLemmas.{has_spot-conns_of}
-use Rattle.np_table.specs.Prelude.{Stretch, address_row, address_rows, all_address_rows, all_pair_rows, all_rows, conns_of, estate_table, four_of, pair_key, pair_rows, row_of, rows_of_addresses, rows_towards, six_of, table_of, walk}
+use Rattle.np_conns.proofs.ConnLemmas.{conns_of-has}
+use Rattle.np_table.specs.Prelude.{Stretch, address_row, address_rows, all_address_rows, all_pair_rows, all_rows, estate_table, four_of, pair_key, pair_rows, row_of, rows_of_addresses, rows_towards, six_of, table_of, walk}
+use Rattle.np_conns.specs.Prelude.{conns_of}
 use Rattle.np_kinds.specs.Prelude.{IsWorkload, address_allows, between_pods, destination_pod, is_alone, number_of_workloads, pair_allows, source_pod}
 
 -- the first two of ascending numbers differ
@@ -79,7 +80,7 @@ module _ (lists : EstateLists) where
       not-alone : (family : Family) → LetSomePass (conns_of (pair_allows lists (folding_of lists) source destination family)) → is_alone (folding_of lists) source destination ≡ false
       not-alone family some =
           false_from_ne_true (is_alone (folding_of lists) source destination) (λ yes.
-          let allowed = sym (has_spot-conns_of (pair_allows lists (folding_of lists) source destination family) some.0 some.1) ∙ some.2 in
+          let allowed = sym (conns_of-has (pair_allows lists (folding_of lists) source destination family) some.0 some.1) ∙ some.2 in
           false≢true (sym (pair_allows-alone lists (folding_of lists) source destination family some.0 yes) ∙ allowed))
 
       row : (mark : Option Family) (family : Family) → ((mark ≡ None) ↔ Agree (families_of lists.pods) (pair_allows lists (folding_of lists) source destination)) →

@@ -10,11 +10,11 @@ use Rattle.std.proofs.lemmas.Bool.{lt-ltb}
 use Rattle.std.proofs.lemmas.List.Elements.{All-append, All-cons, All-head, All-map, All-nil, All-tail, All-weaker}
 use Rattle.std.proofs.lemmas.List.Kept.{AllPairs-cons}
 use Rattle.np_command_list.specs.Prelude.{AddressRow, ComesBefore, Direction, Egress, Family, Four, Ingress, PortSpot, Row, RowKey, Six, mark_rank, rank_of, row_rank, span_rank}
-use Rattle.np_conns.specs.Prelude.{Conns}
+use Rattle.np_conns.specs.Prelude.{Conns, are_same_conns, conns_of}
 use Rattle.np_routes.specs.Prelude.{ClusterTable, all_ingress_rows, cluster_rows, ingress_key, ingress_row}
 use Rattle.np_table.proofs.RangeWalks.{walk-right}
 use Rattle.np_table.proofs.RowLemmas.{HasKey, pair_rows-key}
-use Rattle.np_table.specs.Prelude.{AreRight, Stretch, Table, address_row, address_rows, all_address_rows, all_pair_rows, all_rows, are_same_conns, conns_of, four_of, is_nothing, pair_key, pair_rows, row_if, row_of, rows_in, rows_of_addresses, rows_of_both, rows_towards, six_of, walk, workloads}
+use Rattle.np_table.specs.Prelude.{AreRight, Stretch, Table, address_row, address_rows, all_address_rows, all_pair_rows, all_rows, four_of, is_nothing, pair_key, pair_rows, row_if, row_of, rows_in, rows_of_addresses, rows_of_both, rows_towards, six_of, walk, workloads}
 
 -- ---- pairs of a list
 

@@ -8,15 +8,14 @@ use Rattle.np_routes.proofs.StretchLemmas.{right-within}
 use Rattle.np_command_list.specs.Prelude.{Family, Four, LetSomePass, Pod, PortSpot, Range, Row, RowKey, Six}
 use Rattle.np_base.specs.Ranges.{holds}
 use Rattle.np_base.proofs.Lists.{Contains-one}
-use Rattle.np_conns.specs.Prelude.{AscendsInPorts, Conns, IsConns, has_spot, ranges_of}
+use Rattle.np_conns.specs.Prelude.{AscendsInPorts, Conns, IsConns, are_same_conns, conns_of, has_spot, ranges_of}
 use Rattle.np_conns.specs.declared.proto.Proto.{Proto}
 use Rattle.np_conns.specs.declared.proto.Proto.TheVariants.{Sctp, Tcp, Udp}
-use Rattle.np_conns.proofs.ConnLemmas.{conns_of-well}
+use Rattle.np_conns.proofs.ConnLemmas.{conns_of-set, conns_of-well}
 use Rattle.np_model.specs.Prelude.{families_of, has_family, or_four}
 use Rattle.np_table.proofs.RangeWalks.{walk-right}
 use Rattle.np_table.proofs.SaidLemmas.{are_same_conns-ports}
-use Rattle.np_table.proofs.SetLemmas.{conns_of-set}
-use Rattle.np_table.specs.Prelude.{AllowSamePorts, AreRight, Stretch, are_same_conns, conns_of, is_none, is_nothing, row_if, rows_in, walk}
+use Rattle.np_table.specs.Prelude.{AllowSamePorts, AreRight, Stretch, is_none, is_nothing, row_if, rows_in, walk}
 
 -- ---- connections
 

@@ -6,7 +6,7 @@ use Rattle.std.proofs.lemmas.List.{length-map}
 use Rattle.std.proofs.lemmas.List.FromFn.{length-range_with_len}
 use Rattle.np_addr.specs.declared.address.Family.{Family}
 use Rattle.np_addr.specs.declared.address.Family.TheVariants as family
-use Rattle.np_conns.specs.Prelude.{Conns}
+use Rattle.np_conns.specs.Prelude.{Conns, are_same_conns, conns_of}
 use Rattle.np_command_sample.specs.Prelude.{Direction, Egress, EstateLists, Ingress, PortSpot, sample_estate}
 use Rattle.np_fold.specs.Prelude.{folding_of, workload_count, workloads_of}
 use Rattle.np_fold.proofs.WorkloadLemmas.{workloads-count}
@@ -14,8 +14,8 @@ use Rattle.np_routes.specs.Prelude.{ClusterTable, all_ingress_rows, cluster_rows
 use Rattle.np_routes.proofs.ClusterLemmas.{ingress_row-one}
 use Rattle.np_rules.specs.Prelude.{pod_at}
 use Rattle.np_table.proofs.RangeOneList.{right-walk}
-use Rattle.np_table.proofs.RangeSets.{conns_of-agrees}
-use Rattle.np_table.specs.Prelude.{IsNext, Stretch, Table, address_row, address_rows, all_address_rows, all_pair_rows, all_rows, are_same_conns, conns_of, estate_table, four_of, is_nothing, pair_key, pair_rows, row_if, row_of, rows_in, rows_of_addresses, rows_of_both, rows_towards, six_of, stretch_at, table_of, walk, walk_on, workloads}
+use Rattle.np_conns.proofs.ConnLemmas.{conns_of-agrees}
+use Rattle.np_table.specs.Prelude.{IsNext, Stretch, Table, address_row, address_rows, all_address_rows, all_pair_rows, all_rows, estate_table, four_of, is_nothing, pair_key, pair_rows, row_if, row_of, rows_in, rows_of_addresses, rows_of_both, rows_towards, six_of, stretch_at, table_of, walk, walk_on, workloads}
 use Rattle.np_kinds.specs.Prelude.{address_allows, source_pod}
 use Rattle.np_table.specs.declared.rows.Row.{Row}
 use Rattle.np_table.specs.declared.rows.RowKey.{RowKey}

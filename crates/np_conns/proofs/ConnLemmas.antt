@@ -1,8 +1,12 @@
 -- The spans and the text of connection sets. For `ConnSet::spans`, `ConnSetCells::is_empty` and 3 more.
-use Rattle.std.proofs.Common.{◌≡◌, ℕ, List, Bool, true, false, ◌&&◌, not, ◌≤◌, MatchBool, nat_le, sym, ◌∙◌, ap, subst}
+use Rattle.std.proofs.Common.{◌≡◌, ℕ, List, Bool, true, false, ◌&&◌, ◌==◌, refl, not, ◌≤◌, MatchBool, nat_le, sym, ◌∙◌, ap, subst}
 use Rattle.std.proofs.lemmas.Bool.{and_from, and_parts, le-leb, leb-true}
-use Rattle.np_base.specs.Ranges.{holds}
-use Rattle.np_conns.specs.Prelude.{AscendsInPorts, Conns, IsConns, PortSpot, Proto, Range, Sctp, Tcp, Udp, conns_of, conns_text, equal_by_ranges, has_spot, is_spot, ranges_of, ranges_of-ascend, spans_of, text_of_runs}
+use Rattle.std.proofs.lemmas.Bool.Decides.{Decides-and, Decides-eqb}
+use Rattle.std.proofs.lemmas.Slice.Eq.{slice_eq-Decides}
+use Rattle.std.specs.Bool.{Decides}
+use Rattle.std.specs.Cmp.Lexicographic.{pointwise}
+use Rattle.np_base.specs.Ranges.{are_same_range, holds}
+use Rattle.np_conns.specs.Prelude.{AscendsInPorts, Conns, IsConns, PortSpot, Proto, Range, Sctp, Tcp, Udp, are_same_conns, conns_of, conns_text, equal_by_ranges, has_spot, is_spot, ranges_of, ranges_of-ascend, spans_of, text_of_runs}
 use Rattle.np_conns.proofs.RunLemmas.{runs-agree, runs-ascend, runs-hold, runs-holds}
 
 -- sets with equal ranges of each protocol are equal, and a spot of one protocol tells two sets apart
@@ -94,3 +98,23 @@ conns_of-has_spot conns well =
 -- a well-formed set whose spots are those that pass is the connections of the test
 pub conns_of-set : (conns : Conns) (passes : PortSpot → Bool) → IsConns conns → ((spot : PortSpot) → is_spot spot ≡ true → has_spot conns spot ≡ passes spot) → conns ≡ conns_of passes
 conns_of-set conns passes well agrees = sym (conns_of-has_spot conns well) ∙ conns_of-agrees (has_spot conns) passes agrees
+
+-- ---- when two sets are the same
+
+are_same_range-Decides : (a b : Range ℕ) → Decides (are_same_range a b) (a ≡ b)
+are_same_range-Decides a b =
+    let ends = Decides-and (a.lo == b.lo) (a.hi == b.hi) (Decides-eqb a.lo b.lo) (Decides-eqb a.hi b.hi) in (
+      λ same. let both = ends.0 same in ap (λ (n : ℕ). record { lo = n; hi = a.hi }) both.0 ∙ ap (λ (n : ℕ). record { lo = b.lo; hi = n }) both.1,
+      λ same. ends.1 (ap (λ (range : Range ℕ). range.lo) same, ap (λ (range : Range ℕ). range.hi) same),
+    )
+
+-- the test of connections tells whether they are equal
+pub are_same_conns-Decides : (a b : Conns) → Decides (are_same_conns a b) (a ≡ b)
+are_same_conns-Decides a b =
+    let tcp = slice_eq-Decides are_same_range-Decides a.tcp b.tcp (pointwise are_same_range a.tcp b.tcp) refl in
+    let udp = slice_eq-Decides are_same_range-Decides a.udp b.udp (pointwise are_same_range a.udp b.udp) refl in
+    let sctp = slice_eq-Decides are_same_range-Decides a.sctp b.sctp (pointwise are_same_range a.sctp b.sctp) refl in
+    let all = Decides-and _ _ (Decides-and _ _ tcp udp) sctp in (
+      λ same. let parts = all.0 same in equal_by_ranges a b (elim [ Tcp ↦ parts.0.0 | Udp ↦ parts.0.1 | Sctp ↦ parts.1 ]),
+      λ same. all.1 ((ap (λ (conns : Conns). conns.tcp) same, ap (λ (conns : Conns). conns.udp) same), ap (λ (conns : Conns). conns.sctp) same),
+    )

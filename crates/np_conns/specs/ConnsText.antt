@@ -1,8 +1,10 @@
 -- The text of connections, for a test of spots.
 use Rattle.std.specs.Prelude.{ℕ, List, [], ◌∷◌, ◌++◌, Bool, false, ◌&&◌, if◌then◌else◌, ◌==◌, codes, decimal, Option}
+use Rattle.std.specs.Cmp.Lexicographic.{pointwise}
 use Rattle.std.specs.List.{join_by}
 use Rattle.std.specs.Map.{lookup}
 use Rattle.std.specs.Str.{bytes_eq}
+use Rattle.np_base.specs.Ranges.{are_same_range}
 use Rattle.np_conns.specs.Types.{PortSpot, Proto, Range, Sctp, Tcp, Udp}
 use Rattle.np_conns.specs.Runs.{runs}
 use Rattle.np_conns.specs.Conns.{Conns}
@@ -55,3 +57,7 @@ conns_text passes = text_of_runs (spans_of passes Tcp) (spans_of passes Udp) (sp
 -- the maximal runs of those ports of each protocol whose spots pass
 abbrev pub conns_of : (PortSpot → Bool) → Conns
 conns_of passes = record { tcp = spans_of passes Tcp; udp = spans_of passes Udp; sctp = spans_of passes Sctp }
+
+-- whether two sets have the same runs of each protocol
+abbrev pub are_same_conns : Conns → Conns → Bool
+are_same_conns a b = pointwise are_same_range a.tcp b.tcp && pointwise are_same_range a.udp b.udp && pointwise are_same_range a.sctp b.sctp

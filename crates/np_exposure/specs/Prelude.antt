@@ -5,7 +5,7 @@ unfoldable pub use Rattle.np_exposure.specs.Mentions.{mentions}
 pub use Rattle.np_exposure.specs.PeerText.{are_well, asked_text, requirement_text, side_text, values_text}
 unfoldable pub use Rattle.np_exposure.specs.PeerText.{peer_text}
 pub use Rattle.np_exposure.specs.Right.{FirstRowTells, IsEachFirst, meets_row}
-pub use Rattle.np_exposure.specs.Rows.{are_same_conns, are_same_row, are_same_rows, joined, row_of, rows_at, rows_of}
+pub use Rattle.np_exposure.specs.Rows.{are_same_row, are_same_rows, joined, row_of, rows_at, rows_of}
 unfoldable pub use Rattle.np_exposure.specs.Rows.{rows_left}
 pub use Rattle.np_exposure.specs.Strangers.{IsExposure, exposes, is_hypothetical, labels_at, meets, meets_all, negated}
 pub use Rattle.np_exposure.specs.Tree.{AreRowsAt, AreRowsOf, HasExposure, IsAssumed, IsJoined, IsPossible, always, apart, either, equal, never, with_first}

@@ -2,8 +2,7 @@
 -- and one pod for all that have the same exposure.
 use Rattle.std.specs.Prelude.{List, [], ◌∷◌, ◌++◌, map, Bool, true, false, ◌&&◌, if◌then◌else◌}
 use Rattle.std.specs.Cmp.Lexicographic.{pointwise}
-use Rattle.np_base.specs.Ranges.{are_same_range}
-use Rattle.np_conns.specs.Prelude.{Conns, conns_of}
+use Rattle.np_conns.specs.Prelude.{are_same_conns, conns_of}
 use Rattle.np_exposure.specs.Choices.{can_be_assumed, choices_left, first_stranger}
 use Rattle.np_exposure.specs.Mentions.{is_same, mentions, requirements}
 use Rattle.np_exposure.specs.Strangers.{exposes, negated}
@@ -12,9 +11,6 @@ use Rattle.np_exposure.specs.Types.{ExposureRow, SidedRequirement, Stranger}
 use Rattle.np_rules.specs.Prelude.{PodSide}
 
 -- ---- whether rows are equal
-
-abbrev pub are_same_conns : Conns → Conns → Bool
-are_same_conns a b = pointwise are_same_range a.tcp b.tcp && pointwise are_same_range a.udp b.udp && pointwise are_same_range a.sctp b.sctp
 
 abbrev pub are_same_row : ExposureRow → ExposureRow → Bool
 are_same_row a b = pointwise is_same a.requirements b.requirements && are_same_conns a.conns b.conns

@@ -16,7 +16,7 @@ use Rattle.np_flatten.proofs.OnePolicy.{any-agree, any-map}
 use Rattle.np_flatten.proofs.PortLemmas.{is_none-map, none_or_any-some, ports-match}
 use Rattle.np_flatten.proofs.SplitLemmas.{nothing_is}
 use Rattle.np_table.proofs.RangeWalks.{walk-right}
-use Rattle.np_table.proofs.SetLemmas.{has_spot-conns_of}
+use Rattle.np_conns.proofs.ConnLemmas.{conns_of-has}
 use Rattle.np_table.specs.Prelude.{AreRight, IsInFamily, Stretch, address_row, four_of, is_none, is_nothing, is_within, rows_of_addresses, six_of, span_has, walk}
 use Rattle.np_kinds.specs.Prelude.{address_of}
 use Rattle.np_table.specs.declared.rows.AddressSpan.TheVariants as span
@@ -63,7 +63,7 @@ right-any passes n from to before (stretch ∷ stretches) spot are low high is =
           rw (lo, hi, later-none passes n (stretch.hi + 1) to (Some stretch.conns) stretches spot are.1 (omega arith))
           (or_false (has_spot stretch.conns spot)
           ∙ ap (λ (conns : Conns). has_spot conns spot) (sym (are.0.conns n (omega (arith, are.0.start, low)) inside))
-          ∙ has_spot-conns_of (passes n) spot is)
+          ∙ conns_of-has (passes n) spot is)
     ]
 
 walk-any : (passes : ℕ → PortSpot → Bool) (high n : ℕ) (spot : PortSpot) → n ≤ high → is_spot spot ≡ true → list_any (tells n spot) (walk passes 0 high) ≡ passes n spot

@@ -11,10 +11,11 @@ use Rattle.std.proofs.lemmas.Slice.Eq.{slice_eq-Decides}
 use Rattle.np_flatten.specs.Prelude.{AddressRow, AddressSpan, Agree, Egress, EstateLists, Ingress, PortSpot, Range, are_same_row, are_same_span, differ, differ_at, differ_towards, is_defined, own_sets, set_of, two_differ}
 use Rattle.np_classes.proofs.Lists.{any_place, place_that_passes, places_more}
 use Rattle.np_classes.specs.Classes.{places}
-use Rattle.np_conns.specs.Prelude.{Conns, has_spot}
+use Rattle.np_conns.specs.Prelude.{Conns, are_same_conns, has_spot}
 use Rattle.np_rules.specs.Prelude.{IsAmong}
-use Rattle.np_table.proofs.RangeSets.{are_same_conns-Decides}
-use Rattle.np_table.specs.Prelude.{address_rows, are_same_conns, are_same_range, estate_table}
+use Rattle.np_conns.proofs.ConnLemmas.{are_same_conns-Decides}
+use Rattle.np_table.specs.Prelude.{address_rows, estate_table}
+use Rattle.np_base.specs.Ranges.{are_same_range}
 use Rattle.np_kinds.specs.Prelude.{number_of_workloads}
 use Rattle.np_table.specs.declared.rows.AddressSpan.TheVariants as span
 

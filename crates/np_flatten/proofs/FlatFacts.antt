@@ -7,7 +7,7 @@ use Rattle.np_flatten.specs.Prelude.{EstateLists, Family, Four, Six, are_togethe
 use Rattle.np_classes.proofs.Lists.{All-places, any_place}
 use Rattle.np_classes.proofs.Relations.{alike_in_class}
 use Rattle.np_classes.specs.Classes.{places}
-use Rattle.np_conns.specs.Prelude.{Conns}
+use Rattle.np_conns.specs.Prelude.{Conns, are_same_conns}
 use Rattle.np_model.specs.Prelude.{families_of}
 use Rattle.np_flatten.proofs.AgreeLemmas.{Agree-sym}
 use Rattle.np_flatten.proofs.ClassFirsts.{first-class, first-in}
@@ -16,8 +16,7 @@ use Rattle.np_flatten.proofs.FirstPairs.{first_pair-from_none}
 use Rattle.np_flatten.proofs.GroupLemmas.{together-is}
 use Rattle.np_flatten.proofs.GroupSets.{one-set}
 use Rattle.np_flatten.proofs.SplitLemmas.{families_cases, two_differ-two}
-use Rattle.np_table.proofs.RangeSets.{are_same_conns-Decides}
-use Rattle.np_table.specs.Prelude.{are_same_conns}
+use Rattle.np_conns.proofs.ConnLemmas.{are_same_conns-Decides}
 use Rattle.np_kinds.specs.Prelude.{number_of_workloads}
 
 -- ---- no fault

@@ -28,7 +28,7 @@ use Rattle.np_flatten.proofs.SelectLemmas.{meets-namespace_named, meets-selector
 use Rattle.np_kinds.specs.Prelude.{address_allows, address_of, between_pods, first_end, number_of_workloads, pair_allows, source_pod, with_address}
 use Rattle.np_kinds.proofs.MemberLemmas.{member-number, members-some, members-within, not-alone, own-member, source-member}
 use Rattle.np_kinds.proofs.PairLemmas.{between_pods-pair_allows, pod_there, with_address-address_allows}
-use Rattle.np_table.proofs.SetLemmas.{has_spot-conns_of}
+use Rattle.np_conns.proofs.ConnLemmas.{conns_of-has}
 use Rattle.np_table.specs.Prelude.{IsInFamily, address_rows, estate_table, is_nothing, table_of}
 
 -- ---- pods and groups
@@ -288,7 +288,7 @@ addresses-same lists p direction family number spot lawful fine within in_family
 
 set-has : (lists : EstateLists) (family : Family) (x y : ℕ) (spot : PortSpot) → is_spot spot ≡ true → has_spot (set_in lists family x y) spot ≡ pair_allows lists (folding_of lists) x y family spot
 unfolding set_in
-set-has lists family x y spot is = has_spot-conns_of (pair_allows lists (folding_of lists) x y family) spot is
+set-has lists family x y spot is = conns_of-has (pair_allows lists (folding_of lists) x y family) spot is
 
 -- and between two pods
 pub pods-same : (lists : EstateLists) (p q : ℕ) (family : Family) (spot : PortSpot) → IsLawful lists → flat_fault lists ≡ None → p < length lists.pods → q < length lists.pods → p ≢ q →

@@ -22,7 +22,7 @@ use Rattle.np_kinds.specs.Prelude.{address_allows, first_end, is_alone, number_o
 use Rattle.np_kinds.proofs.KindNumbers.{first_pod-there}
 use Rattle.np_kinds.proofs.PairLemmas.{first_there, in_workloads, one_kind-sources, pair_allows-kinds, with_address-same}
 use Rattle.np_table.proofs.RangeOneList.{walk-agrees}
-use Rattle.np_table.proofs.RangeSets.{conns_of-agrees}
+use Rattle.np_conns.proofs.ConnLemmas.{conns_of-agrees}
 use Rattle.np_table.specs.Prelude.{Stretch, address_row, address_rows, estate_table, four_of, six_of, table_of, walk}
 
 -- ---- counts

@@ -2,12 +2,11 @@
 use Rattle.std.proofs.Common.{◌≡◌, ◌≢◌, ◌==◌, ◌+◌, ℕ, false, true, length, inl, inr, arith, sym, ap, ◌∙◌}
 use Rattle.std.proofs.lemmas.Bool.{and_left, cases_eq, ne_eqb}
 use Rattle.np_flatten.specs.Prelude.{AreKnownBelow, Direction, Egress, EstateLists, Family, Ingress, PortSpot, family_of_list, set_in, set_of}
-use Rattle.np_conns.specs.Prelude.{Conns, IsConns, has_spot}
+use Rattle.np_conns.specs.Prelude.{Conns, IsConns, conns_of, has_spot}
 use Rattle.np_fold.specs.Prelude.{folding_of, members_of}
 use Rattle.np_rules.specs.Prelude.{PodSide}
-use Rattle.np_table.proofs.SetLemmas.{conns_of-set}
+use Rattle.np_conns.proofs.ConnLemmas.{conns_of-set}
 use Rattle.np_table.proofs.SideLemmas.{StandFor}
-use Rattle.np_table.specs.Prelude.{conns_of}
 use Rattle.np_kinds.specs.Prelude.{KnownSides, KnowsMore, between_pods, knows, pair_allows}
 
 -- ---- what is known

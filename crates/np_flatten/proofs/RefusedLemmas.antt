@@ -12,8 +12,7 @@ use Rattle.np_flatten.proofs.DifferLemmas.{Agrees, from_agree, to_agree}
 use Rattle.np_flatten.proofs.FirstPairs.{first_pair-from_none, first_pair-is_first}
 use Rattle.np_flatten.proofs.FlatFacts.{same_sets}
 use Rattle.np_flatten.proofs.SplitLemmas.{families_cases, two_differ-two}
-use Rattle.np_table.proofs.RangeSets.{are_same_conns-Decides, conns_of-agrees}
-use Rattle.np_table.proofs.SetLemmas.{has_spot-conns_of}
+use Rattle.np_conns.proofs.ConnLemmas.{are_same_conns-Decides, conns_of-agrees, conns_of-has}
 use Rattle.np_table.specs.Prelude.{address_rows, estate_table}
 use Rattle.np_kinds.specs.Prelude.{is_alone, number_of_workloads, pair_allows}
 
@@ -24,9 +23,9 @@ set_packets : (lists : EstateLists) (family other : Family) (a b c d : ℕ) → 
     pair_allows lists (folding_of lists) a b family spot ≡ pair_allows lists (folding_of lists) c d other spot
 unfolding set_in
 set_packets lists family other a b c d same spot inside =
-    sym (has_spot-conns_of (pair_allows lists (folding_of lists) a b family) spot inside)
+    sym (conns_of-has (pair_allows lists (folding_of lists) a b family) spot inside)
     ∙ ap (λ (set : Conns). has_spot set spot) same
-    ∙ has_spot-conns_of (pair_allows lists (folding_of lists) c d other) spot inside
+    ∙ conns_of-has (pair_allows lists (folding_of lists) c d other) spot inside
 
 -- and sets of the same packets are equal
 packets_set : (lists : EstateLists) (family other : Family) (a b c d : ℕ) →

@@ -8,13 +8,13 @@ use Rattle.std.proofs.lemmas.List.{length-map}
 use Rattle.std.proofs.lemmas.List.Folds.{find-append}
 use Rattle.np_flatten.specs.Prelude.{AddressRow, Direction, Egress, EstateLists, Family, Four, Ingress, Pod, Range, Row, Six, first_pair, first_split_of, is_defined, is_split, set_in, split_of, two_differ}
 use Rattle.np_classes.specs.Classes.{places}
-use Rattle.np_conns.specs.Prelude.{Conns}
+use Rattle.np_conns.specs.Prelude.{Conns, are_same_conns}
 use Rattle.np_model.specs.Prelude.{families_of, has_family}
 use Rattle.np_fold.specs.Prelude.{Workload, folding_of}
 use Rattle.np_flatten.proofs.FirstPairs.{first_pair-none}
 use Rattle.np_kinds.proofs.PairLemmas.{pair_allows-alone}
-use Rattle.np_table.proofs.RangeSets.{are_same_conns-Decides, conns_of-agrees}
-use Rattle.np_table.specs.Prelude.{Table, address_rows, all_address_rows, all_pair_rows, all_rows, are_same_conns, estate_table, is_none, is_nothing, pair_key, pair_rows, row_if, row_of, rows_in, rows_towards, table_of, workloads}
+use Rattle.np_conns.proofs.ConnLemmas.{are_same_conns-Decides, conns_of-agrees}
+use Rattle.np_table.specs.Prelude.{Table, address_rows, all_address_rows, all_pair_rows, all_rows, estate_table, is_none, is_nothing, pair_key, pair_rows, row_if, row_of, rows_in, rows_towards, table_of, workloads}
 use Rattle.np_kinds.specs.Prelude.{is_alone, number_of_workloads}
 
 -- ---- rows of several lists

@@ -4,12 +4,13 @@ use Rattle.std.specs.Cmp.Lexicographic.{pointwise}
 use Rattle.std.specs.List.{list_any}
 use Rattle.np_flatten.specs.Types.{AddressRow, AddressSpan, Alike, Direction, Egress, EstateLists, Family, FlatFault, Four, Ingress, Split}
 use Rattle.np_classes.specs.Classes.{places}
-use Rattle.np_conns.specs.Prelude.{Conns}
+use Rattle.np_conns.specs.Prelude.{Conns, are_same_conns, conns_of}
 use Rattle.np_model.specs.Prelude.{families_of}
 use Rattle.np_fold.specs.Prelude.{folding_of}
 use Rattle.np_flatten.specs.Groups.{are_together}
 use Rattle.np_flatten.specs.Pairs.{first_pair}
-use Rattle.np_table.specs.Prelude.{address_rows, are_same_conns, are_same_range, conns_of, estate_table}
+use Rattle.np_table.specs.Prelude.{address_rows, estate_table}
+use Rattle.np_base.specs.Ranges.{are_same_range}
 use Rattle.np_kinds.specs.Prelude.{is_alone, number_of_workloads, pair_allows}
 use Rattle.np_table.specs.declared.rows.AddressSpan.TheVariants as span
 

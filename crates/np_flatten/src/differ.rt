@@ -5,7 +5,8 @@ ghost use Rattle.std.specs.List.{list_any};
 ghost use Rattle.np_classes.specs.Classes.{places};
 ghost use Rattle.np_flatten.specs.Faults as spec;
 ghost use Rattle.np_flatten.specs.Prelude.{AreTwo, own_set};
-ghost use Rattle.np_table.specs.Prelude.{are_same_conns, are_same_range};
+ghost use Rattle.np_conns.specs.Prelude.{are_same_conns};
+ghost use Rattle.np_base.specs.Ranges.{are_same_range};
 ghost use Rattle.np_kinds.specs.Prelude.{IsWorkload, number_of_workloads};
 
 use crate::passing::Passing;

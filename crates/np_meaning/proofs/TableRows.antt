@@ -5,7 +5,7 @@ use Rattle.std.proofs.lemmas.List.Elements.{All-append, All-cons, All-map, All-n
 use Rattle.np_base.proofs.Lists.{All-numbers}
 use Rattle.np_meaning.specs.Prelude.{EstateLists, Family, IsEndOf, IsRowOf, IsSpan, Row}
 use Rattle.np_addr.specs.declared.address.Family.TheVariants as family
-use Rattle.np_conns.specs.Prelude.{Conns, IsConns}
+use Rattle.np_conns.specs.Prelude.{Conns, IsConns, are_same_conns, conns_of}
 use Rattle.np_conns.specs.declared.port_spot.PortSpot.{PortSpot}
 use Rattle.np_conns.proofs.ConnLemmas.{conns_of-well}
 use Rattle.np_model.specs.declared.direction.Direction.{Direction}
@@ -14,7 +14,7 @@ use Rattle.np_routes.specs.Prelude.{ClusterTable, all_ingress_rows, cluster_rows
 use Rattle.np_routes.proofs.ClusterLemmas.{estate-names}
 use Rattle.np_routes.proofs.StretchLemmas.{right-within}
 use Rattle.np_table.proofs.RangeWalks.{walk-right}
-use Rattle.np_table.specs.Prelude.{AreRight, Stretch, Table, address_row, address_rows, all_address_rows, all_pair_rows, all_rows, are_same_conns, conns_of, estate_table, four_of, is_nothing, pair_key, pair_rows, row_if, row_of, rows_in, rows_of_addresses, rows_of_both, rows_towards, six_of, walk}
+use Rattle.np_table.specs.Prelude.{AreRight, Stretch, Table, address_row, address_rows, all_address_rows, all_pair_rows, all_rows, estate_table, four_of, is_nothing, pair_key, pair_rows, row_if, row_of, rows_in, rows_of_addresses, rows_of_both, rows_towards, six_of, walk}
 use Rattle.np_kinds.specs.Prelude.{IsWorkload, number_of_workloads}
 use Rattle.np_table.specs.declared.rows.AddressRow.{AddressRow}
 use Rattle.np_table.specs.declared.rows.RowKey.{RowKey}

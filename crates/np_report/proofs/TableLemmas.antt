@@ -3,12 +3,12 @@ use Rattle.std.proofs.Common.{◌≡◌, ℕ, zero, suc, ◌+◌, ◌-◌, ◌^�
 use Rattle.std.specs.List.{flat_map, range_with_len}
 use Rattle.np_report.specs.Prelude.{AreSameTables, Direction, Family, Format, Four, Query, Report, Row, RowKey, SayTheSame, Six, is_shown, list_text, report_text, shown, texts_of}
 use Rattle.np_model.proofs.FamilyLemmas.{same_family-itself}
-use Rattle.np_conns.specs.Prelude.{Conns}
+use Rattle.np_conns.specs.Prelude.{Conns, conns_of}
 use Rattle.np_model.specs.declared.direction.Direction.TheVariants.{Egress, Ingress}
 use Rattle.np_routes.specs.Prelude.{ClusterTable, all_ingress_rows, cluster_rows, ingress_key, ingress_row}
 use Rattle.np_table.proofs.RangeOneList.{walk-agrees}
-use Rattle.np_table.proofs.RangeSets.{conns_of-agrees}
-use Rattle.np_table.specs.Prelude.{Stretch, Table, address_row, address_rows, all_address_rows, all_pair_rows, all_rows, conns_of, four_of, pair_key, pair_rows, row_if, row_of, rows_in, rows_of_both, rows_towards, six_of, walk, workloads}
+use Rattle.np_conns.proofs.ConnLemmas.{conns_of-agrees}
+use Rattle.np_table.specs.Prelude.{Stretch, Table, address_row, address_rows, all_address_rows, all_pair_rows, all_rows, four_of, pair_key, pair_rows, row_if, row_of, rows_in, rows_of_both, rows_towards, six_of, walk, workloads}
 
 -- lists that are joined for each number of a range are those of another function that agrees there
 flat_map-agrees : {Y : Type 0} (f g : ℕ → List Y) (from count : ℕ) → ((n : ℕ) → from ≤ n → n < from + count → f n ≡ g n) →

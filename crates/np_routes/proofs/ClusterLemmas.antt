@@ -8,14 +8,14 @@ use Rattle.std.proofs.Math.Bool.{or-false}
 use Rattle.np_routes.specs.Prelude.{ClusterTable, Controller, Egress, EstateLists, Family, Ingress, PortSpot, Row, RowEnd, RowKey, Sctp, Span, Tcp, Udp, Work, all_ingress_rows, cluster_rows, cluster_table, ingress_allows, ingress_key, ingress_reaches, ingress_row, is_controller, is_from_controller, is_ingress_controller, rows_from_controller, sender_of}
 use Rattle.np_base.specs.Ranges.{holds}
 use Rattle.np_base.specs.declared.range.Range.{Range}
-use Rattle.np_conns.specs.Prelude.{Conns, has_spot, is_spot, ranges_of}
+use Rattle.np_conns.specs.Prelude.{Conns, conns_of, has_spot, is_spot, ranges_of}
 use Rattle.np_model.specs.Prelude.{IsLawful}
 use Rattle.np_fold.specs.Prelude.{Folding, Workload, folding_of, number_of}
 use Rattle.np_model.specs.declared.direction.Direction.{Direction}
 use Rattle.np_routes.proofs.ReachedLemmas.{number-workload, reaches-allows}
 use Rattle.np_table.proofs.RowLemmas.{HasKey, filter-by, filter-flat_map, filter-map_none, pair_rows-key, range-none, range-only}
-use Rattle.np_table.proofs.SetLemmas.{has_spot-conns_of}
-use Rattle.np_table.specs.Prelude.{Table, address_rows, all_address_rows, all_pair_rows, all_rows, allows_in, conns_of, estate_table, is_between, is_none, is_nothing, is_of_address, is_workload, pair_key, pair_rows, row_if, row_of, rows_between, rows_of_address, rows_towards, table_of, workloads}
+use Rattle.np_conns.proofs.ConnLemmas.{conns_of-has}
+use Rattle.np_table.specs.Prelude.{Table, address_rows, all_address_rows, all_pair_rows, all_rows, allows_in, estate_table, is_between, is_none, is_nothing, is_of_address, is_workload, pair_key, pair_rows, row_if, row_of, rows_between, rows_of_address, rows_towards, table_of, workloads}
 use Rattle.np_kinds.specs.Prelude.{IsWorkload, number_of_workloads}
 
 -- ---- a row from the controller
@@ -159,7 +159,7 @@ row_if-one key conns = by (is_nothing conns)
 ingress_row-says : (cluster : ClusterTable) (workload : ℕ) (family : Family) (spot : PortSpot) → is_spot spot ≡ true →
     allows_in (ingress_row cluster workload) family spot ≡ cluster.ingresses workload spot
 unfolding ingress_row
-ingress_row-says cluster workload family spot is = row_if-says (ingress_key workload) (conns_of (cluster.ingresses workload)) family spot ∙ has_spot-conns_of (cluster.ingresses workload) spot is
+ingress_row-says cluster workload family spot is = row_if-says (ingress_key workload) (conns_of (cluster.ingresses workload)) family spot ∙ conns_of-has (cluster.ingresses workload) spot is
 
 pub ingress_row-one : (cluster : ClusterTable) (workload : ℕ) → length (ingress_row cluster workload) ≤ 1
 unfolding ingress_row

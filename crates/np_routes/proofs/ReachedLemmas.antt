@@ -8,16 +8,15 @@ use Rattle.std.proofs.lemmas.List.{get_or_default}
 use Rattle.std.proofs.lemmas.List.Folds.{list_any-append, list_any_more}
 use Rattle.std.proofs.Math.Bool.{or-false}
 use Rattle.np_routes.specs.Prelude.{Egress, EstateLists, Family, Four, Ingress, Pod, PortSpot, Sender, Six, ingress_allows, ingress_reaches, ingress_steps, is_controller, is_routed, may_send, reaches, send_steps, sender_for, sender_of, sends}
-use Rattle.np_conns.specs.Prelude.{Conns, IsConns, has_spot, is_spot}
+use Rattle.np_conns.specs.Prelude.{Conns, IsConns, conns_of, has_spot, is_spot}
 use Rattle.np_model.specs.Prelude.{IsLawful, families_of, has_family, or_four}
 use Rattle.np_fold.proofs.WorkloadLemmas.{number-in_workloads}
 use Rattle.np_fold.specs.Prelude.{folding_of, members_of, number_of}
 use Rattle.np_routes.proofs.KindRoutes.{one_workload-alike, reaches-same}
 use Rattle.np_rules.specs.Prelude.{pod_at, side_of, side_rule_count}
 use Rattle.np_kinds.proofs.MemberLemmas.{member-number, members-some, members-within, own-member, source-member}
-use Rattle.np_table.proofs.SetLemmas.{conns_of-set, has_spot-conns_of}
+use Rattle.np_conns.proofs.ConnLemmas.{conns_of-has, conns_of-set}
 use Rattle.np_kinds.specs.Prelude.{IsWorkload, first_side, source_pod}
-use Rattle.np_table.specs.Prelude.{conns_of}
 
 -- ---- the sender
 
@@ -45,7 +44,7 @@ sets-next passes families i d sets more set spot within pushed made is before =
     joins-next (λ (one : Family). passes one spot) families i family (list_any (λ one. has_spot one spot) sets) (has_spot set spot) (list_any (λ one. has_spot one spot) more) within item
     (ap (list_any (λ one. has_spot one spot)) pushed ∙ list_any-append (λ one. has_spot one spot) sets (set ∷ []) ∙ ap (λ (b : Bool). list_any (λ one. has_spot one spot) sets || b)
     (or-false (has_spot set spot)))
-    before (ap (λ (conns : Conns). has_spot conns spot) made ∙ has_spot-conns_of (passes family) spot is)
+    before (ap (λ (conns : Conns). has_spot conns spot) made ∙ conns_of-has (passes family) spot is)
 
 -- ---- rules that are looked at
 
@@ -154,7 +153,7 @@ pub every_pod-of : (lists : EstateLists) (controller : Option ℕ) (workload : �
     Contains (members_of (folding_of lists) workload) p → is_spot spot ≡ true → has_spot set spot ≡ ingress_reaches lists (sender_of (folding_of lists) controller) p spot
 every_pod-of lists controller workload set lawful within is other p spot has in_space =
     ap (λ (conns : Conns). has_spot conns spot) is
-    ∙ has_spot-conns_of (ingress_allows lists (folding_of lists) controller workload) spot in_space
+    ∙ conns_of-has (ingress_allows lists (folding_of lists) controller workload) spot in_space
     ∙ sym (reaches-member lists controller workload p spot lawful within has other)
 
 -- folding loses no port that is reached

@@ -3,7 +3,8 @@ use Rattle.std.specs.Prelude.{ℕ, List, ◌++◌, Bool, true, false, ◌&&◌, 
 use Rattle.np_routes.specs.Types.{Controller, EstateLists, PortSpot, Row, RowEnd, RowKey, Work}
 use Rattle.np_fold.specs.Prelude.{folding_of}
 use Rattle.np_routes.specs.Controllers.{ingress_allows}
-use Rattle.np_table.specs.Prelude.{Table, all_rows, conns_of, estate_table, is_workload, row_if, workloads}
+use Rattle.np_table.specs.Prelude.{Table, all_rows, estate_table, is_workload, row_if, workloads}
+use Rattle.np_conns.specs.Prelude.{conns_of}
 
 -- The table of an estate, and which ports of each workload are reached through ingresses.
 pub record ClusterTable : Type 0 where

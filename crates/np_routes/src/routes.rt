@@ -1,6 +1,6 @@
 //! Which TCP ports of a workload are reached through ingresses.
 ghost use Rattle.std.specs.Prelude.{◌≡◌, ◌<◌, ◌≤◌, ◌+◌, ℕ, Contains, true, false, IfOk, IfSome, length};
-ghost use Rattle.np_conns.specs.Prelude.{IsConns, has_spot, is_spot};
+ghost use Rattle.np_conns.specs.Prelude.{IsConns, conns_of, has_spot, is_spot};
 ghost use Rattle.np_conns.specs.declared.port_spot.PortSpot.{PortSpot};
 ghost use Rattle.np_model.specs.Prelude.{families_of};
 ghost use Rattle.np_fold.specs.Prelude.{folding_of, members_of};
@@ -8,7 +8,6 @@ ghost use Rattle.np_model.specs.declared.direction.Direction.TheVariants.{Ingres
 ghost use Rattle.np_routes.specs.Controllers as spec;
 ghost use Rattle.np_routes.specs.steps.Senders.{IsReceiver, reaches, send_steps};
 ghost use Rattle.np_rules.specs.Prelude.{side_of};
-ghost use Rattle.np_table.specs.Prelude.{conns_of};
 ghost use Rattle.np_kinds.specs.Prelude.{IsWorkload};
 
 use crate::backends::Backends;

@@ -4,8 +4,8 @@ use Rattle.std.specs.Prelude.{filter}
 use Rattle.std.proofs.lemmas.Bool.{and_left, and_parts, and_right, leb-true, ne_eqb}
 use Rattle.std.proofs.lemmas.List.Elements.{All-cons, All-filter, All-head, All-nil, All-same, All-weaker, filter-append, filter_passes}
 use Rattle.std.proofs.lemmas.List.Sums.{length-filter}
-use Rattle.np_table.specs.Prelude.{AddressRow, AreRight, Direction, Egress, EstateLists, Family, Four, Ingress, IsInFamily, OneRowSays, PortSpot, Row, RowKey, Six, Stretch, Table, address_row, address_rows, all_address_rows, all_pair_rows, all_rows, conns_of, four_of, is_address, is_of_address, is_within, is_workload, pair_key, pair_rows, row_of, rows_of_address, rows_of_addresses, rows_towards, six_of, span_has, table_of, walk, workloads}
-use Rattle.np_conns.specs.Prelude.{Conns, has_spot}
+use Rattle.np_table.specs.Prelude.{AddressRow, AreRight, Direction, Egress, EstateLists, Family, Four, Ingress, IsInFamily, OneRowSays, PortSpot, Row, RowKey, Six, Stretch, Table, address_row, address_rows, all_address_rows, all_pair_rows, all_rows, four_of, is_address, is_of_address, is_within, is_workload, pair_key, pair_rows, row_of, rows_of_address, rows_of_addresses, rows_towards, six_of, span_has, table_of, walk, workloads}
+use Rattle.np_conns.specs.Prelude.{Conns, conns_of, has_spot}
 use Rattle.np_model.specs.Prelude.{IsLawful}
 use Rattle.np_fold.specs.Prelude.{Folding, folding_of, number_of}
 use Rattle.np_rules.specs.Prelude.{pod, pod_at}
@@ -14,7 +14,7 @@ use Rattle.np_table.proofs.RangeCounts.{one_range}
 use Rattle.np_table.proofs.RangeWalks.{walk-right}
 use Rattle.np_table.proofs.RowLemmas.{HasKey, filter-by, filter-flat_map, filter-map, filter-map_none, pair_rows-key, range-none, range-only}
 use Rattle.np_table.proofs.SaidLemmas.{number-within}
-use Rattle.np_table.proofs.SetLemmas.{has_spot-conns_of}
+use Rattle.np_conns.proofs.ConnLemmas.{conns_of-has}
 use Rattle.np_kinds.specs.Prelude.{address_allows, with_address}
 
 -- ---- the range of an address
@@ -183,7 +183,7 @@ one_row-table table workload direction family number within in_family =
     let one = one_has (table.addresses workload direction) family number in_family in (
       row_of workload direction one.0,
       rows_of_address-all table workload direction family number within ∙ ap (λ (found : List AddressRow). map (row_of workload direction) found) one.1,
-      λ spot is. ap (λ (conns : Conns). has_spot conns spot) one.2 ∙ has_spot-conns_of (table.addresses workload direction family number) spot is,
+      λ spot is. ap (λ (conns : Conns). has_spot conns spot) one.2 ∙ conns_of-has (table.addresses workload direction family number) spot is,
     )
 
 addresses-are : (lists : EstateLists) (folding : Folding) (workload : ℕ) (direction : Direction) (family : Family) (number : ℕ) (spot : PortSpot) →

@@ -3,11 +3,11 @@ use Rattle.std.proofs.Common.{◌≡◌, ◌≢◌, ◌<◌, ◌≤◌, ◌+◌,
 use Rattle.std.specs.Option.{option_map}
 use Rattle.std.proofs.Math.Nat.{mul-le-mul_left}
 use Rattle.std.proofs.lemmas.Bool.Decides.{eqb_tells}
-use Rattle.np_table.specs.Prelude.{CachedConns, CachesAlso, CachesTheSame, Direction, Egress, EstateLists, Family, Four, Ingress, IsCached, PortSpot, Row, RowKey, Sctp, Six, Tcp, Udp, are_same_conns, cached_at, cached_count, cached_of, conns_of, is_nothing, most_rules, pair_key, pair_rows, row_if, row_with, rows_in, rows_of_both, rules_of, table_of}
-use Rattle.np_conns.specs.Prelude.{Conns, has_spot}
+use Rattle.np_table.specs.Prelude.{CachedConns, CachesAlso, CachesTheSame, Direction, Egress, EstateLists, Family, Four, Ingress, IsCached, PortSpot, Row, RowKey, Sctp, Six, Tcp, Udp, cached_at, cached_count, cached_of, is_nothing, most_rules, pair_key, pair_rows, row_if, row_with, rows_in, rows_of_both, rules_of, table_of}
+use Rattle.np_conns.specs.Prelude.{Conns, are_same_conns, conns_of, has_spot}
 use Rattle.np_model.specs.Prelude.{IsLawful}
 use Rattle.np_fold.specs.Prelude.{Folding, folding_of}
-use Rattle.np_table.proofs.RangeSets.{conns_of-agrees, conns_of-has_spot}
+use Rattle.np_conns.proofs.ConnLemmas.{conns_of-agrees, conns_of-has_spot}
 use Rattle.np_table.proofs.DueLemmas.{greatest-at, same_source, source-behind}
 use Rattle.np_table.proofs.KeptLemmas.{cached_count-below}
 use Rattle.np_kinds.proofs.KindNumbers.{kinds-by}

@@ -7,7 +7,6 @@ pub mod PlaceLemmas
 pub mod RangeCounts
 pub mod RangeOneList
 pub mod RangePieces
-pub mod RangeSets
 pub mod RangeWalks
 pub mod RowLemmas
 pub mod SaidLemmas

@@ -1,9 +1,9 @@
 -- No two lists are right. For `equal_tests_have_one_list`, `one_list_is_right` and crates above.
 use Rattle.std.proofs.Common.{◌≡◌, ℕ, ◌+◌, ◌<◌, ◌≤◌, List, [], ◌∷◌, Bool, true, Option, Some, None, refl, sym, ◌∙◌, ap, arith, inl, inr}
 use Rattle.std.proofs.lemmas.Bool.{cases_order}
-use Rattle.np_conns.specs.Prelude.{Conns, is_spot}
-use Rattle.np_table.specs.Prelude.{AreRight, IsRight, PortSpot, Stretch, conns_of, walk}
-use Rattle.np_table.proofs.RangeSets.{conns_of-agrees}
+use Rattle.np_conns.specs.Prelude.{Conns, conns_of, is_spot}
+use Rattle.np_table.specs.Prelude.{AreRight, IsRight, PortSpot, Stretch, walk}
+use Rattle.np_conns.proofs.ConnLemmas.{conns_of-agrees}
 use Rattle.np_table.proofs.RangeWalks.{walk-right}
 
 -- stretches do not end before they begin

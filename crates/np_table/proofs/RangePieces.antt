@@ -1,9 +1,9 @@
 -- Pieces are the right list of what passes by them. For `pieces_are_right`.
 use Rattle.std.proofs.Common.{◌≡◌, ℕ, ◌+◌, ◌<◌, ◌≤◌, List, [], ◌∷◌, Bool, Option, Some, None, refl, ◌∙◌, ap, arith}
-use Rattle.np_conns.specs.Prelude.{Conns, IsConns, has_spot}
-use Rattle.np_table.specs.Prelude.{AreRight, IsRight, Piece, PortSpot, conns_of, stretches_of}
+use Rattle.np_conns.specs.Prelude.{Conns, IsConns, conns_of, has_spot}
+use Rattle.np_table.specs.Prelude.{AreRight, IsRight, Piece, PortSpot, stretches_of}
 use Rattle.np_pieces.specs.Prelude.{ArePieces, ArePieces-ordered, Covers, has_at, value_at-first, value_at-rest, value_has}
-use Rattle.np_table.proofs.RangeSets.{conns_of-has_spot}
+use Rattle.np_conns.proofs.ConnLemmas.{conns_of-has_spot}
 
 -- by a test that answers at each number as the pieces from there on do
 ArePieces-right : {P : Type 0} (number_of : P → ℕ) (passes : ℕ → PortSpot → Bool) (from to : ℕ) (before : Option Conns) (pieces : List (Piece P Conns)) →

@@ -2,9 +2,9 @@
 use Rattle.std.proofs.Common.{◌≡◌, ◌≢◌, ℕ, zero, suc, ◌+◌, ◌≤◌, Bool, Option, Some, None, refl, ◌∙◌, ap, arith, inl, inr}
 use Rattle.std.proofs.lemmas.Bool.{cases_lt, cond_both}
 use Rattle.std.proofs.lemmas.Bool.Decides.{not_from_Decides}
-use Rattle.np_conns.specs.Prelude.{Conns}
-use Rattle.np_table.specs.Prelude.{AreRight, IsNext, IsRight, PortSpot, Stretch, are_same_conns, conns_of, stretch_at, walk, walk_on}
-use Rattle.np_table.proofs.RangeSets.{are_same_conns-Decides}
+use Rattle.np_conns.specs.Prelude.{Conns, are_same_conns, conns_of}
+use Rattle.np_table.specs.Prelude.{AreRight, IsNext, IsRight, PortSpot, Stretch, stretch_at, walk, walk_on}
+use Rattle.np_conns.proofs.ConnLemmas.{are_same_conns-Decides}
 
 -- a number alone may be the next stretch where other connections pass before it
 IsNext-stretch_at : (passes : ℕ → PortSpot → Bool) (from : ℕ) (before : Option Conns) → before ≢ Some (conns_of (passes from)) → IsNext passes from before (stretch_at passes from)

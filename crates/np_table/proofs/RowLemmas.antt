@@ -4,8 +4,8 @@ use Rattle.std.specs.Prelude.{filter}
 use Rattle.std.specs.List.{range_with_len}
 use Rattle.std.proofs.lemmas.Bool.{and_parts, cases_eq, eqb-true, false≢true}
 use Rattle.std.proofs.lemmas.List.Elements.{All-append, All-cons, All-head, All-nil, All-tail, All-weaker, filter-append, filter_passes}
-use Rattle.np_table.specs.Prelude.{Controller, Direction, Family, Four, Row, RowEnd, RowKey, Six, Span, Table, Work, are_same_conns, conns_of, is_between, is_nothing, is_of_address, is_workload, pair_key, pair_rows, row_if, rows_between, rows_in, rows_of_address, rows_of_both}
-use Rattle.np_conns.specs.Prelude.{Conns}
+use Rattle.np_table.specs.Prelude.{Controller, Direction, Family, Four, Row, RowEnd, RowKey, Six, Span, Table, Work, is_between, is_nothing, is_of_address, is_workload, pair_key, pair_rows, row_if, rows_between, rows_in, rows_of_address, rows_of_both}
+use Rattle.np_conns.specs.Prelude.{Conns, are_same_conns, conns_of}
 
 -- ---- rows that pass a test
 

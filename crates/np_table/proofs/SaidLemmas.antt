@@ -5,17 +5,17 @@ use Rattle.std.proofs.lemmas.Bool.{and_from, and_parts, and_right, false≢true,
 use Rattle.std.proofs.lemmas.List.{length-map}
 use Rattle.std.proofs.lemmas.List.Elements.{All-cons, All-contains, All-head, All-nil, All-same, All-tail, All-weaker, filter-append}
 use Rattle.std.proofs.lemmas.List.Folds.{list_any-append}
-use Rattle.np_table.specs.Prelude.{AllowSamePorts, Direction, Egress, EstateLists, Family, Four, Ingress, IsUnmarked, PortSpot, Proto, Range, Row, RowKey, Sctp, Six, Table, Tcp, Udp, address_rows, all_address_rows, all_pair_rows, all_rows, allows_in, are_same_conns, conns_of, is_between, is_none, is_nothing, is_workload, pair_key, pair_rows, row_if, row_of, rows_between, rows_in, rows_of_both, rows_towards, says, speaks_of, table_of, workloads}
+use Rattle.np_table.specs.Prelude.{AllowSamePorts, Direction, Egress, EstateLists, Family, Four, Ingress, IsUnmarked, PortSpot, Proto, Range, Row, RowKey, Sctp, Six, Table, Tcp, Udp, address_rows, all_address_rows, all_pair_rows, all_rows, allows_in, is_between, is_none, is_nothing, is_workload, pair_key, pair_rows, row_if, row_of, rows_between, rows_in, rows_of_both, rows_towards, says, speaks_of, table_of, workloads}
 use Rattle.np_base.specs.Ranges.{holds}
 use Rattle.np_conns.proofs.RunLemmas.{runs-by_members}
-use Rattle.np_conns.specs.Prelude.{Conns, has_spot, is_spot, ranges_of, spans_of}
+use Rattle.np_conns.specs.Prelude.{Conns, are_same_conns, conns_of, has_spot, is_spot, ranges_of, spans_of}
 use Rattle.np_model.specs.Prelude.{IsLawful, families_of}
 use Rattle.np_fold.proofs.WorkloadLemmas.{number-in_workloads}
 use Rattle.np_fold.specs.Prelude.{Folding, Workload, folding_of, members_of, number_of}
-use Rattle.np_table.proofs.RangeSets.{are_same_conns-Decides, conns_of-agrees}
+use Rattle.np_conns.proofs.ConnLemmas.{are_same_conns-Decides, conns_of-agrees, conns_of-has}
 use Rattle.np_kinds.proofs.PairLemmas.{between_pods-pair_allows, pair_allows-alone}
 use Rattle.np_table.proofs.RowLemmas.{HasKey, filter-by, filter-flat_map, filter-map_none, pair_rows-key, range-none, range-only}
-use Rattle.np_table.proofs.SetLemmas.{has_spot-conns_of, rows_of_both-same}
+use Rattle.np_table.proofs.SetLemmas.{rows_of_both-same}
 use Rattle.np_kinds.specs.Prelude.{between_pods, pair_allows}
 
 -- ---- sets without ports
@@ -138,7 +138,7 @@ pub allows_in-pair_rows : (table : Table) (source destination : ℕ) (family : F
 unfolding pair_rows
 allows_in-pair_rows table source destination family spot has is =
     allows_in-rows_in table.families (pair_key source destination) (λ family. conns_of (table.pairs source destination family)) family spot has
-    ∙ has_spot-conns_of (table.pairs source destination family) spot is
+    ∙ conns_of-has (table.pairs source destination family) spot is
 
 -- there is none where no port passes in any family
 pub pair_rows-nothing : (table : Table) (source destination : ℕ) → ((family : Family) (spot : PortSpot) → table.pairs source destination family spot ≡ false) → pair_rows table source destination ≡ []
@@ -153,7 +153,7 @@ pair_rows-nothing table source destination nothing =
 pub are_same_conns-ports : (four six : PortSpot → Bool) → (are_same_conns (conns_of four) (conns_of six) ≡ true) ↔ AllowSamePorts four six
 are_same_conns-ports four six =
     let test = are_same_conns-Decides (conns_of four) (conns_of six) in (
-      λ same. λ spot is. sym (has_spot-conns_of four spot is) ∙ ap (λ (conns : Conns). has_spot conns spot) (test.0 same) ∙ has_spot-conns_of six spot is,
+      λ same. λ spot is. sym (conns_of-has four spot is) ∙ ap (λ (conns : Conns). has_spot conns spot) (test.0 same) ∙ conns_of-has six spot is,
       λ alike. test.1 (conns_of-agrees four six alike),
     )
 

@@ -1,34 +1,11 @@
 -- Sets of connections, and the rows of them. For `Rows::next`, `add_row` and 7 more.
-use Rattle.std.proofs.Common.{◌≡◌, ◌≢◌, ◌≤◌, ℕ, List, [], ◌∷◌, ◌++◌, Bool, true, false, not, nat_le, Option, None, Some, Result, Ok, Err, IfOk, OnErr, OnOk, length, get_or, arith, refl, sym, ◌∙◌, subst}
-use Rattle.std.proofs.lemmas.Bool.{and_from, and_parts, both_ways, false_from_ne_true, leb-true, or_left, true≢false}
-use Rattle.np_table.specs.Prelude.{Family, Four, PortSpot, Proto, Range, RowKey, Sctp, Six, Tcp, Udp, are_same_conns, conns_of, is_none, is_nothing, row_if, rows_in, rows_of_both}
+use Rattle.std.proofs.Common.{◌≡◌, ◌≢◌, ℕ, List, [], ◌∷◌, ◌++◌, Bool, true, false, not, Option, None, Some, Result, Ok, Err, IfOk, OnErr, OnOk, length, get_or, arith, refl, sym, ◌∙◌, subst}
+use Rattle.std.proofs.lemmas.Bool.{and_from, both_ways, false_from_ne_true, or_left, true≢false}
+use Rattle.np_table.specs.Prelude.{Family, Four, PortSpot, Range, RowKey, Sctp, Six, Tcp, Udp, is_none, is_nothing, row_if, rows_in, rows_of_both}
 use Rattle.np_base.proofs.Ranges.{is_within-inside}
 use Rattle.np_base.specs.Ranges.{holds, IsAscending}
-use Rattle.np_conns.proofs.RunLemmas.{runs-hold}
-use Rattle.np_conns.specs.Prelude.{Conns, IsConns, has_spot, is_spot}
-use Rattle.np_table.proofs.RangeSets.{are_same_conns-Decides, conns_of-agrees, conns_of-has_spot}
-
--- ---- a set and what passes
-
--- a set whose ports are those that pass is the connections of the test
-pub conns_of-set : (conns : Conns) (passes : PortSpot → Bool) → IsConns conns → ((spot : PortSpot) → is_spot spot ≡ true → has_spot conns spot ≡ passes spot) → conns ≡ conns_of passes
-conns_of-set conns passes well agrees = sym (conns_of-has_spot conns well) ∙ conns_of-agrees (has_spot conns) passes agrees
-
-low : (port : ℕ) (proto : Proto) → is_spot (record { proto = proto; port = port }) ≡ true → 1 ≤ port
-low port proto is = leb-true 1 port (and_parts (nat_le 1 port) (nat_le port 65535) is).0
-
-high : (port : ℕ) (proto : Proto) → is_spot (record { proto = proto; port = port }) ≡ true → port ≤ 65535
-high port proto is = leb-true port 65535 (and_parts (nat_le 1 port) (nat_le port 65535) is).1
-
-has_port : (passes : PortSpot → Bool) (proto : Proto) (port : ℕ) → is_spot (record { proto = proto; port = port }) ≡ true →
-    has_spot (conns_of passes) (record { proto = proto; port = port }) ≡ passes (record { proto = proto; port = port })
-has_port passes Tcp port is = runs-hold (λ (p : ℕ). passes (record { proto = Tcp; port = p })) port (low port Tcp is) (high port Tcp is)
-has_port passes Udp port is = runs-hold (λ (p : ℕ). passes (record { proto = Udp; port = p })) port (low port Udp is) (high port Udp is)
-has_port passes Sctp port is = runs-hold (λ (p : ℕ). passes (record { proto = Sctp; port = p })) port (low port Sctp is) (high port Sctp is)
-
--- the connections of a test have the ports that pass
-pub has_spot-conns_of : (passes : PortSpot → Bool) (spot : PortSpot) → is_spot spot ≡ true → has_spot (conns_of passes) spot ≡ passes spot
-has_spot-conns_of passes spot is = has_port passes spot.proto spot.port is
+use Rattle.np_conns.specs.Prelude.{Conns, IsConns, are_same_conns, has_spot}
+use Rattle.np_conns.proofs.ConnLemmas.{are_same_conns-Decides}
 
 -- ---- rows
 

@@ -1,15 +1,14 @@
 -- The sides of the pods that stand for workloads, and of those that stand for kinds. For `address_rows_by_kind`, `address_rows` and 8 more.
 use Rattle.std.proofs.Common.{◌≡◌, ◌<◌, ◌≤◌, ◌+◌, ◌-◌, ◌*◌, ◌^◌, ℕ, List, [], Bool, true, false, ◌&&◌, Some, None, length, lit≤, arith, refl, sym, ap, subst, ◌∙◌, if◌then◌else◌, ◌≢◌, Contains}
-use Rattle.np_table.specs.Prelude.{AreEnds, Direction, Egress, EstateLists, Family, Four, Ingress, PairEnds, PortSpot, Six, address_rows, conns_of, ends_of, estate_table, most_rules, pair_key, pair_rows, rows_in, rows_of_addresses, rules_of_pair, side_with_address, table_of}
-use Rattle.np_conns.specs.Prelude.{Conns, IsConns, has_spot, is_spot}
+use Rattle.np_table.specs.Prelude.{AreEnds, Direction, Egress, EstateLists, Family, Four, Ingress, PairEnds, PortSpot, Six, address_rows, ends_of, estate_table, most_rules, pair_key, pair_rows, rows_in, rows_of_addresses, rules_of_pair, side_with_address, table_of}
+use Rattle.np_conns.specs.Prelude.{Conns, IsConns, conns_of, has_spot, is_spot}
 use Rattle.np_model.specs.Prelude.{IsLawful, families_of}
 use Rattle.np_fold.specs.Prelude.{Folding, folding_of, members_of}
 use Rattle.np_rules.specs.Prelude.{PodSide, pod, side_of, side_rule_count}
 use Rattle.np_table.proofs.KindLemmas.{conns_of-nothing, nothing, rows_in-agree, rows_in-nothing, rules-most}
 use Rattle.np_kinds.proofs.PairLemmas.{pair_allows-between, rule_count-destination, between-members}
 use Rattle.np_table.proofs.RangeOneList.{walk-agrees}
-use Rattle.np_table.proofs.RangeSets.{conns_of-agrees}
-use Rattle.np_table.proofs.SetLemmas.{conns_of-set, has_spot-conns_of}
+use Rattle.np_conns.proofs.ConnLemmas.{conns_of-agrees, conns_of-has, conns_of-set}
 use Rattle.np_kinds.specs.Prelude.{IsWorkload, address_allows, between_pods, first_side, is_alone, kind_side, pair_allows, side_allows_pod}
 use Rattle.std.proofs.lemmas.Bool.{and_right}
 use Rattle.np_kinds.proofs.ReachLemmas.{between-is}
@@ -110,7 +109,7 @@ every_pod-of lists folding source destination family set folded =
     (spot : PortSpot) → Contains (members_of f source) p → Contains (members_of f destination) q → p ≢ q → is_spot spot ≡ true → has_spot set spot ≡ between_pods lists p q family spot in
     subst of (sym folded) (λ source_in destination_in made lawful p q spot p_has q_has differ is.
     ap (λ (conns : Conns). has_spot conns spot) made
-    ∙ has_spot-conns_of (pair_allows lists (folding_of lists) source destination family) spot is
+    ∙ conns_of-has (pair_allows lists (folding_of lists) source destination family) spot is
     ∙ sym (between-members lists source destination p q family spot lawful source_in destination_in p_has q_has differ))
 
 -- ---- kinds

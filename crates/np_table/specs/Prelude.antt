@@ -1,6 +1,6 @@
 -- The definitions and types of this crate that its proofs and the crates above speak of, one import line a file.
 pub use Rattle.np_table.specs.PairRules.{AreEnds, rules_of_pair, side_with_address}
-pub use Rattle.np_table.specs.Right.{AreRight, IsNext, IsRight, Stretch, are_same_conns, are_same_range, conns_of, is_within, stretch_at, stretch_of, stretches_of, walk_on}
+pub use Rattle.np_table.specs.Right.{AreRight, IsNext, IsRight, Stretch, is_within, stretch_at, stretch_of, stretches_of, walk_on}
 unfoldable pub use Rattle.np_table.specs.Right.{walk}
 pub use Rattle.np_table.specs.RowCache.{CachesAlso, CachesTheSame, cached_at, cached_count, cached_of, row_with}
 unfoldable pub use Rattle.np_table.specs.RowCache.{IsCached}

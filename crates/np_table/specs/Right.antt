@@ -1,14 +1,9 @@
 -- Lists of ranges of numbers that say which ports pass at each number of a space.
-use Rattle.std.specs.Prelude.{ℕ, zero, suc, ◌≡◌, ◌≢◌, ◌≤◌, ◌+◌, ◌-◌, List, [], ◌∷◌, map, Bool, ◌&&◌, ◌==◌, nat_le, Option, Some, None, if◌then◌else◌}
-use Rattle.std.specs.Cmp.Lexicographic.{pointwise}
-use Rattle.np_table.specs.Types.{Piece, PortSpot, Range, Sctp, Tcp, Udp}
-use Rattle.np_conns.specs.Prelude.{Conns, spans_of}
+use Rattle.std.specs.Prelude.{ℕ, zero, suc, ◌≡◌, ◌≢◌, ◌≤◌, ◌+◌, ◌-◌, List, [], ◌∷◌, map, Bool, ◌&&◌, nat_le, Option, Some, None, if◌then◌else◌}
+use Rattle.np_table.specs.Types.{Piece, PortSpot}
+use Rattle.np_conns.specs.Prelude.{Conns, are_same_conns, conns_of}
 
 -- ---- ranges
-
--- the maximal runs of those ports of each protocol whose spots pass
-abbrev pub conns_of : (PortSpot → Bool) → Conns
-conns_of passes = record { tcp = spans_of passes Tcp; udp = spans_of passes Udp; sctp = spans_of passes Sctp }
 
 -- a range of numbers, ends included, and the connections that pass at each of them
 pub record Stretch : Type 0 where
@@ -39,12 +34,6 @@ abbrev pub IsRight : (ℕ → PortSpot → Bool) → ℕ → ℕ → List Stretc
 IsRight passes low high stretches = AreRight passes low (high + 1) None stretches
 
 -- ---- the walk that builds it
-
-abbrev pub are_same_range : Range ℕ → Range ℕ → Bool
-are_same_range a b = a.lo == b.lo && a.hi == b.hi
-
-abbrev pub are_same_conns : Conns → Conns → Bool
-are_same_conns a b = pointwise are_same_range a.tcp b.tcp && pointwise are_same_range a.udp b.udp && pointwise are_same_range a.sctp b.sctp
 
 -- a number alone
 abbrev pub stretch_at : (ℕ → PortSpot → Bool) → ℕ → Stretch

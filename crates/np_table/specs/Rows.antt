@@ -3,8 +3,8 @@ use Rattle.std.specs.Prelude.{ℕ, ◌-◌, ◌^◌, List, [], ◌∷◌, ◌++�
 use Rattle.std.specs.List.{range_with_len}
 use Rattle.np_table.specs.Types.{AddressRow, AddressSpan, Direction, Egress, Family, Ingress, PortSpot, Row, RowEnd, RowKey, Span, Work}
 use Rattle.np_addr.specs.declared.address.Family.TheVariants as family
-use Rattle.np_conns.specs.Prelude.{Conns}
-use Rattle.np_table.specs.Right.{Stretch, are_same_conns, conns_of, walk}
+use Rattle.np_conns.specs.Prelude.{Conns, are_same_conns, conns_of}
+use Rattle.np_table.specs.Right.{Stretch, walk}
 use Rattle.np_table.specs.Table.{Table}
 use Rattle.np_table.specs.declared.rows.AddressSpan.TheVariants as span
 

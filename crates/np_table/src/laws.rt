@@ -3,13 +3,13 @@ ghost use Rattle.std.specs.Prelude.{◌≡◌, ◌≢◌, ◌<◌, ◌≤◌, �
 ghost use Rattle.np_addr.specs.declared.address.Family.{Family};
 ghost use Rattle.np_addr.specs.declared.address.Family.TheVariants.{Four, Six};
 ghost use Rattle.np_classes.specs.Classes.{class_of};
-ghost use Rattle.np_conns.specs.Prelude.{is_spot};
+ghost use Rattle.np_conns.specs.Prelude.{are_same_conns, conns_of, is_spot};
 ghost use Rattle.np_conns.specs.declared.port_spot.PortSpot.{PortSpot};
 ghost use Rattle.np_model.specs.Prelude.{IsLawful, families_of};
 ghost use Rattle.np_model.specs.declared.lists.EstateLists.{EstateLists};
 ghost use Rattle.np_fold.specs.Prelude.{Folding, folding_of, kinds_alike, members_of, number_of, workload_count};
 ghost use Rattle.np_model.specs.declared.direction.Direction.{Direction};
-ghost use Rattle.np_table.specs.Prelude.{AllowSamePorts, IsInFamily, IsUnmarked, OneRowSays, Table, all_rows, allows_in, are_same_conns, conns_of, pair_rows, rows_between, table_of};
+ghost use Rattle.np_table.specs.Prelude.{AllowSamePorts, IsInFamily, IsUnmarked, OneRowSays, Table, all_rows, allows_in, pair_rows, rows_between, table_of};
 ghost use Rattle.np_rules.specs.Prelude.{pod, pod_at};
 ghost use Rattle.np_kinds.specs.Prelude.{address_allows, between_pods, is_alone, pair_allows, with_address};
 

@@ -1,6 +1,6 @@
 //! What passes between two pods, and so between two workloads.
 ghost use Rattle.std.specs.Prelude.{◌≡◌, ◌≢◌, ◌≤◌, ◌<◌, ◌+◌, ℕ, if◌then◌else◌, None, Some, Contains, false, length, true, IfOk, IfSome};
-ghost use Rattle.np_conns.specs.Prelude.{IsConns, has_spot, is_spot};
+ghost use Rattle.np_conns.specs.Prelude.{IsConns, conns_of, has_spot, is_spot};
 ghost use Rattle.np_conns.specs.declared.port_spot.PortSpot.{PortSpot};
 ghost use Rattle.np_model.specs.Prelude.{IsLawful};
 ghost use Rattle.np_fold.specs.Prelude.{folding_of, members_of};
@@ -8,7 +8,6 @@ ghost use Rattle.np_rules.specs.Prelude.{side_rule_count};
 ghost use Rattle.np_kinds.specs.Between as spec;
 ghost use Rattle.np_kinds.specs.Prelude.{side_allows_pod};
 ghost use Rattle.np_table.specs.PairRules as rules;
-ghost use Rattle.np_table.specs.Right.{conns_of};
 ghost use Rattle.np_table.specs.steps.PairSides.{ends_of};
 
 use np_addr::Family;

@@ -2,7 +2,8 @@
 ghost use Rattle.std.specs.Prelude.{◌≡◌, ◌≤◌, ◌+◌, ◌*◌, ◌++◌, None, IfOk, OnOk};
 ghost use Rattle.np_rules.specs.Prelude.{side_rule_count};
 ghost use Rattle.np_table.specs.PairRules as rules;
-ghost use Rattle.np_table.specs.Prelude.{conns_of, estate_table};
+ghost use Rattle.np_table.specs.Prelude.{estate_table};
+ghost use Rattle.np_conns.specs.Prelude.{conns_of};
 ghost use Rattle.np_table.specs.Rows as spec;
 ghost use Rattle.np_kinds.specs.Prelude.{IsWorkload, between_pods};
 

@@ -1,6 +1,7 @@
 use Rattle.std.proofs.Common.{arith, ap, sym, ◌∙◌}
 use Rattle.std.proofs.lemmas.Result.{IfOk-weaker}
-use Rattle.np_table.specs.Prelude.{EstateLists, Family, RowKey, conns_of, rows_in}
+use Rattle.np_table.specs.Prelude.{EstateLists, Family, RowKey, rows_in}
+use Rattle.np_conns.specs.Prelude.{conns_of}
 use Rattle.np_model.specs.Prelude.{families_of}
 use Rattle.np_fold.specs.Prelude.{folding_of}
 use Rattle.np_table.proofs.KindLemmas.{pair_rows-alone}

@@ -1,6 +1,7 @@
 use Rattle.std.proofs.Common.{◌++◌, List, None, ap, ◌∙◌}
 use Rattle.std.proofs.lemmas.Result.{IfOk-weaker}
-use Rattle.np_table.specs.Prelude.{Family, Row, conns_of, row_if}
+use Rattle.np_table.specs.Prelude.{Family, Row, row_if}
+use Rattle.np_conns.specs.Prelude.{conns_of}
 use Rattle.np_table.proofs.SetLemmas.{rows_in-both, rows_in-one}
 use Rattle.np_table.proofs.rows_of_pairs.rows_between.Goals as goal
 use Rattle.np_kinds.specs.Prelude.{between_pods}
