@@ -1,5 +1,6 @@
 #!/usr/bin/env python3
-"""docs/proof/THEOREM.txt: the contract of np_main with every definition that it reaches, for an auditor to read from top to bottom.
+"""docs/proof/THEOREM.txt: the contracts of answer and np_main with every definition that they reach, for an auditor to read from top to
+bottom.
 
 tools/theorem_text.py            prints how much there is to read, part by part
 tools/theorem_text.py --write    writes the document

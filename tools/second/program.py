@@ -4,6 +4,7 @@
 It is written from docs/proof/THEOREM.txt and examples/ alone, by one who has not seen the sources of np. What the text does not say
 is guessed; DIARY.md says where."""
 import os
+import re
 import sys
 from functools import lru_cache
 from typing import Callable, Dict, List, NamedTuple, Sequence, Tuple
@@ -24,6 +25,7 @@ from second.values import SURROGATE
 from second.words import USAGE, Job, job_of
 
 SIZE_LIMIT = 33554432
+CONTROL = re.compile("[\x00-\x1f\x7f-\x9f]")
 DONE, REFUSED, WRONG_USE, DEVICE, VIOLATED = 0, 1, 2, 3, 5
 
 # The bytes of the input of a name; OSError where it cannot be read.
@@ -92,19 +94,27 @@ def answer(job: Job, source: Source) -> Answer:
     return Answer(DONE if holds else VIOLATED, text.encode(), notes_text(job, estate).encode() if holds else b"")
 
 
+def in_one_line(found: "re.Match[str]") -> str:
+    """A control character, as it stands in one line."""
+    return {"\t": "\\t", "\n": "\\n", "\r": "\\r"}.get(found.group(), "\\u{%x}" % ord(found.group()))
+
+
+def error_line(what: str) -> bytes:
+    """What fails, in one line: its control characters are escaped, and nothing else."""
+    return ("error: %s\n" % CONTROL.sub(in_one_line, what)).encode()
+
+
 def run(words: Sequence[str], source: Source) -> Answer:
-    """The answer of the words of a command line. Where one is no text, nothing is said of that."""
-    if SURROGATE.search("".join(words)):
-        return Answer(WRONG_USE, b"", b"")
-    job = job_of(words)
+    """The answer of the words of a command line, which asks for nothing where a word is no text."""
+    job = None if SURROGATE.search("".join(words)) else job_of(words)
     if job is None:
         return Answer(WRONG_USE, b"", USAGE.encode())
     try:
         return answer(job, source)
     except Refused as refused:
-        return Answer(REFUSED, b"", ("error: %s\n" % refused).encode())
+        return Answer(REFUSED, b"", error_line(str(refused)))
     except OSError as failed:
-        return Answer(DEVICE, b"", ("error: cannot read %s\n" % failed).encode())
+        return Answer(DEVICE, b"", error_line("cannot read %s" % failed))
 
 
 def read_system(name: str) -> bytes:

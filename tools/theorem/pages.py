@@ -34,7 +34,7 @@ NOT_FIRST, LAST_FIRST = {"np_frame/specs/Sources.antt", "np_command/specs/Sinks.
 CONTENTS = "CONTENTS"
 
 # What is written by hand.
-BY_HAND = ["front.txt", "kit.txt", "parts.txt", "estates.txt"]
+BY_HAND = ["front.txt", "headline.txt", "kit.txt", "parts.txt", "estates.txt"]
 # Has the lists of the estates that are worked out by hand.
 ESTATES = project.TOP / "transcripts" / "worked-estates.txt"
 
@@ -70,7 +70,10 @@ class Document:
         self.kit_line = kit_line
         self.project = project.Project()
         self.main = code.function_item(self.project.file("np_cli", "src/run.rt"), "np_main")
+        self.headline = code.function_item(self.project.file("np_cli", "src/in_memory.rt"), "answer")
         self.all = self.project.reached([self.main])
+        self.in_memory = [item for item in self.project.reached([self.headline]) if item not in [self.headline, *self.all]]
+        self.all += [self.headline, *self.in_memory]
         self.clauses = [next(item for item in self.all if (item.home.title(), item.name) == (path, name)) for _, path, name in CLAUSES]
         self.promised = self.project.reached([item for item in self.main.needs if item not in self.clauses])
         self.promises = [item for item in self.promised if item.home.title() == PROMISES]
@@ -90,7 +93,7 @@ class Document:
         """The items of each part: those of its promise, and behind them the others, each in order."""
         tops = [[item for item in self.promised if item.home.title() in files] for _, files in PARTS[:-1]]
         first = [*({*files} - NOT_FIRST for _, files in PARTS[:-1]), {LAST_FIRST}, *({path} for _, path, _ in CLAUSES)]
-        done, parts = {*self.promises, self.main}, []
+        done, parts = {*self.promises, self.main, self.headline, *self.in_memory}, []
         for roots, files in zip([*tops, self.promised, *([clause] for clause in self.clauses)], first):
             new = [item for item in self.project.reached(roots) if item not in done]
             ordered = project.in_order(new)
@@ -101,7 +104,7 @@ class Document:
 
     def check(self):
         """Refuses where an item stands before one that it needs, but for those of a part's promise, or where one is in no part."""
-        seen = {*self.promises, self.main}
+        seen = {*self.promises, self.main, self.headline, *self.in_memory}
         for promise, others in self.parts:
             seen.update(promise)
             for item in others:
@@ -135,7 +138,8 @@ class Document:
             return tuple(map(sum, zip(*(numbers for _, numbers in rows))))
         parts = [(f"{number}. {title}", self.counts([*promise, *others]))
                  for number, (title, (promise, others)) in enumerate(zip(self.titles, self.parts), 1)]
-        promised = [("The contract and its promises", self.counts([self.main, *self.promises])), *parts[:len(PARTS)]]
+        promised = [("The headline", self.counts([self.headline, *self.in_memory])),
+                    ("The contract and its promises", self.counts([self.main, *self.promises])), *parts[:len(PARTS)]]
         rows = [*promised, ("All that is promised", together(promised)), *parts[len(PARTS):]]
         rows.append(("All of it", together([*promised, *parts[len(PARTS):]])))
         lines = [f"{'':<36}{'definitions':>12}{'lines':>7}{'types of code':>15}{'lines':>7}{'comments':>10}"]
@@ -262,7 +266,7 @@ class Document:
     def where_defined(self):
         """Where the definitions stand that the promises name."""
         found = {}
-        for item in [self.main, *self.promises]:
+        for item in [self.headline, *self.in_memory, self.main, *self.promises]:
             for need in item.needs:
                 if need in self.part_of:
                     found.setdefault(self.part_of[need], set()).add(need.name)
@@ -275,6 +279,11 @@ class Document:
         lines = [*prose("front.txt"), "", "HOW MUCH THERE IS TO READ", "", *self.table(), ""]
         lines += ["Lines are counted without comments and empty lines; those of types as they stand in this document.",
                   "With comments, headings and empty lines the document has LINES lines, the appendix among them.", "", CONTENTS, ""]
+        lines += ["", title_line("THE HEADLINE"), "", *prose("headline.txt"), "", f"━━━ {self.headline.home.title()}", ""]
+        lines += [*self.headline.comment, *self.headline.lines, "", "The words of this contract stand here, or below:", ""]
+        for shelf in self.shelves(project.in_order(self.in_memory)):
+            lines += [*self.shelf_lines(shelf), ""]
+        lines += [f"({self.size_of([self.headline, *self.in_memory])}.)", ""]
         lines += ["", title_line("THE CONTRACT"), "", f"━━━ {self.main.home.title()}", "", *self.main.comment, *self.main.lines, ""]
         lines += ["How the program calls it:", "", f"━━━ {main.home.title()}", "", *main.lines, ""]
         lines += [*counted.comment, *counted.lines, ""]

@@ -1,35 +1,47 @@
 //! The program: the top call over the system.
 #![tactic(auto)]
 
-ghost use Rattle.std.specs.Prelude.{◌≡◌, ◌<◌, ℕ};
-ghost use Rattle.np_cli.specs.Prelude.{Bytes, Counted, Promises, ran};
-ghost use Rattle.np_command.specs.Prelude.{code_of, sunk};
-ghost use Rattle.np_frame.specs.Prelude.{sourced};
-ghost use Rattle.np_command.specs.declared.status.Status.{Status as SpecStatus};
-ghost use Rattle.np_args.specs.Prelude.{asked_by};
+mod words;
 
+ghost use Rattle.std.specs.Prelude.{◌≡◌, ◌<◌, IfErr, Result, String};
+ghost use Rattle.std.specs.Global.{Global as SpecGlobal, Vec as SpecVec};
+ghost use Rattle.std.specs.Process.{exit_status};
+ghost use Rattle.np.specs.Runs.{EndsSo};
+ghost use Rattle.np.specs.Words.{IsNoText};
+ghost use Rattle.np_command.specs.Prelude.{SinkTrace, sunk};
+ghost use Rattle.np_command.specs.declared.failure.Failure.{Failure as SpecFailure};
+ghost use Rattle.np_frame.specs.Prelude.{SourceTrace, sourced};
+
+use crate::words::{RealCall, words_of};
 use np_base::Steps;
-use np_cli::{Status, np_main};
+use np_cli::{np_main, say_failure};
+use np_command::Failure;
 use np_io::{Inputs, RealInputs, RealSink, RealSystem, Sink};
 use std::alloc::Global;
 use std::io::{Stderr, Stdout};
 use std::marker::Brand;
 use std::process::ExitCode;
-use std::rt::Env;
 use std::sync::ledger::{Blank, Ledger};
-use std::{env, io};
 
 fn main(rt: HostRuntime) -> ExitCode {
-    let code = match words(&rt) {
-        Ok(words) => run_on_system(rt, &words),
-        Err(status) => status.code(),
-    };
-    ExitCode::from(code)
+    exit_code(rt)
 }
 
-// Runs the top call over the system. The types tell the two streams apart: the report goes to the former, what is said of the run to the
-// latter.
-fn run_on_system(rt: HostRuntime, words: &[String]) -> u8 {
+// The code of the program, which is that of some run. The kit takes no clause on `main`.
+fn exit_code(rt: HostRuntime) -> ExitCode
+    ensures { (words : Result (SpecVec (String SpecGlobal)) SpecFailure) × (source : SourceTrace) × (out : SinkTrace) × (err : SinkTrace)
+        × EndsSo words source out err (exit_status result) }
+{
+    let words = words_of(&RealCall(&rt));
+    ExitCode::from(run_on_system(rt, words))
+}
+
+// Runs the top call over the system, and answers the code that the program ends with: that of some run, of which all is promised.
+// The types tell the two streams apart: the report goes to the former, what is said of the run to the latter.
+fn run_on_system(rt: HostRuntime, words: Result<Vec<String>, Failure>) -> u8
+    requires { IfErr words IsNoText }
+    ensures { (source : SourceTrace) × (out : SinkTrace) × (err : SinkTrace) × EndsSo words source out err result }
+{
     let alloc = rt.alloc();
     let mut out = RealSink::new(rt.stdout());
     let mut err = RealSink::new(rt.stderr());
@@ -44,48 +56,29 @@ fn run_on_system(rt: HostRuntime, words: &[String]) -> u8 {
     )
 }
 
-// The code that the top call ends with: that of a status of which all is promised that `np_main` promises of its own. The rules are counted
-// from 0, on the ledger of this blank.
+// The code that the top call ends with. The rules are counted from 0, on the ledger of this blank. Where there are no words, it is
+// said why.
 fn run_counted<I: Inputs, O: Sink, E: Sink, L: Ledger>(
     alloc: Global,
-    words: &[String],
+    words: Result<Vec<String>, Failure>,
     inputs: &mut I,
     out: &mut O,
     err: &mut E,
     blank: Blank,
 ) -> u8
+    requires text { IfErr words IsNoText }
     requires name { blank.name ≡ L.name }
     requires parts { blank.parts ≡ L.parts }
     requires some { 0 < blank.parts }
-    ensures promises { let run = ran (asked_by words.now)
-        (sourced I.holds I.left I.faults I.handed I.began inputs.old inputs.new)
-        (sunk O.taken O.faults out.old out.new) in
-        let said = sunk E.taken E.faults err.old err.new in
-        (status : SpecStatus) × (counted : ℕ) × (result ≡ code_of status)
-        × Promises run said status × Bytes run said status × Counted run 0 counted }
+    ensures ends { EndsSo words (sourced I.holds I.left I.faults I.handed I.began inputs.old inputs.new)
+        (sunk O.taken O.faults out.old out.new) (sunk E.taken E.faults err.old err.new) result }
     ensures usage { result ≡ 2 → (inputs.new ≡ inputs.old) × (out.new ≡ out.old) }
 {
-    let mut steps: Steps<L> = Steps::new(blank);
-    np_main(alloc, words, inputs, out, err, &mut steps).code()
-}
-
-// The words after the program's name. The status tells why there are none.
-fn words<R: Env + AllocGlobal>(rt: &R) -> Result<Vec<String>, Status> {
-    match listed_words(rt) {
-        Ok(words) => Ok(words),
-        Err(error) => Err(status_of(&error)),
-    }
-}
-
-fn listed_words<R: Env + AllocGlobal>(rt: &R) -> io::Result<Vec<String>> {
-    Ok(env::args(rt)?.skip(1).collect(rt.alloc())?)
-}
-
-// A word that is no text asks for nothing.
-fn status_of(error: &io::Error) -> Status {
-    if error.kind() == io::ErrorKind::OutOfMemory {
-        Status::NoMemory
-    } else {
-        Status::Usage
+    match words {
+        Ok(words) => {
+            let mut steps: Steps<L> = Steps::new(blank);
+            np_main(alloc, &words, inputs, out, err, &mut steps).code()
+        }
+        Err(failure) => say_failure(alloc, err, failure).status().code(),
     }
 }

@@ -1,3 +1,4 @@
+pub mod AnswerLemmas
 pub mod CountsLemmas
 pub mod DoneLemmas
 pub mod HeadlineLemmas

@@ -6,8 +6,8 @@ use Rattle.std.proofs.lemmas.Bool.{both_ways}
 use Rattle.np_io.proofs.TakenLemmas.{TookLess-not_all}
 use Rattle.np_io.specs.Prelude.{Rose, TookLess}
 use Rattle.np_cli.specs.Prelude.{AcknowledgesReport, BlamesDevice, BlamesWords, CannotRead, CannotWrite, Cause, Completes, Done, Ending, Failure, Fault, IsStill, Job, NoMemory, Refused, RefusesFaults, RefusesMore, RefusesTooLarge, Run, Status, TooLarge, Usage, Violated, ending_of, ending_status, message, output, refusal, status_of}
-use Rattle.np_command.specs.Prelude.{NamesSomething, Said, SinkTrace}
-use Rattle.np_frame.specs.Prelude.{FailedAt, SourceTrace, names_asked}
+use Rattle.np_command.specs.Prelude.{Said, SinkTrace}
+use Rattle.np_frame.specs.Prelude.{FailedAt, NamesSomething, SourceTrace, names_asked}
 use Rattle.np_frame.proofs.SourcesLemmas.{Contains-middle}
 use Rattle.np_command.specs.declared.status.Status.TheVariants as status
 

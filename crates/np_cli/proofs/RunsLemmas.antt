@@ -5,8 +5,8 @@ use Rattle.std.proofs.lemmas.Bool.{le-ltb}
 use Rattle.np_io.specs.Prelude.{TookFront, TookLess}
 use Rattle.np_frame.proofs.SourcesLemmas.{BeganNext-none}
 use Rattle.np_cli.specs.Prelude.{Answers, AskedNothing, CannotRead, CannotWrite, Cause, Ending, Failure, Fault, IsAccepted, IsReported, Job, NoMemory, Refused, Run, TooLarge, Usage, ending_of, output, ran, refusal, reply_in, text_of}
-use Rattle.np_command.specs.Prelude.{IsKept, NamesSomething, SinkTrace, TookWhole, fault_in, text_in, words_failure}
-use Rattle.np_frame.specs.Prelude.{AreTold, BeganFront, FailedAt, IsUntouched, OverLimit, ReadOnce, SourceTrace, Unread, is_too_large, names_asked, names_of, objects_of, source_failure, total_size}
+use Rattle.np_command.specs.Prelude.{IsKept, SinkTrace, TookWhole, fault_in, text_in, words_failure}
+use Rattle.np_frame.specs.Prelude.{AreTold, BeganFront, FailedAt, IsUntouched, NamesSomething, OverLimit, ReadOnce, SourceTrace, Unread, is_too_large, names_asked, names_of, objects_of, source_failure, total_size}
 use Rattle.np_frame.specs.declared.sources.TheConstants.{SIZE_LIMIT}
 use Rattle.np_frame.specs.declared.sources.SourceFault.{SourceFault}
 use Rattle.np_frame.specs.declared.sources.SourceFault.TheVariants as unread

@@ -2,6 +2,7 @@ pub mod Answers
 pub mod Bytes
 pub mod Causes
 pub mod Counts
+pub mod InMemory
 pub mod Messages
 pub mod Outcomes
 pub mod Prelude

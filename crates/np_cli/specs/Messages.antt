@@ -1,8 +1,7 @@
 -- What is said of a run on the error sink.
 use Rattle.std.specs.Prelude.{ℕ, List, [], Result, Ok, Err}
 use Rattle.np_cli.specs.Types.{Done, Ending, Failure, Violated}
-use Rattle.np_frame.specs.Prelude.{notes_text}
-use Rattle.np_command.specs.Prelude.{failure_text}
+use Rattle.np_frame.specs.Prelude.{failure_text, notes_text}
 
 -- the notes of a report that is done, and nothing where a statement does not hold
 abbrev pub ending_text : Ending → List ℕ

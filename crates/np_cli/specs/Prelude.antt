@@ -5,6 +5,7 @@ pub use Rattle.np_cli.specs.Bytes.{AcknowledgesReport, Bytes, Completes, Refuses
 pub use Rattle.np_cli.specs.Causes.{Cause, EndsExactly, IsAccepted, IsReported, LackedExactly, RefusedExactly, ReportedExactly, StoppedExactly}
 pub use Rattle.np_cli.specs.Counts.{Counted, RoseAtMost, steps_in}
 unfoldable pub use Rattle.np_cli.specs.Counts.{most_steps, reply_steps}
+pub use Rattle.np_cli.specs.InMemory.{SaysOfTexts, answer_to, fault_or, holding, outcome_on, texts_held}
 pub use Rattle.np_cli.specs.Messages.{ending_text, message}
 pub use Rattle.np_cli.specs.Outcomes.{Ends, HaveFault, IsReportOn, LackedMemory, Leaves, NotesLeftOut, RefusedFor, RefusesFor, Reported, Says, StoppedWriting, taking}
 pub use Rattle.np_cli.specs.Prints.{Answers}

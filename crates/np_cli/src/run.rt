@@ -1,9 +1,9 @@
 //! The top call: from the words of a command line and the bytes of its inputs to a report and a status.
 ghost use Rattle.std.specs.Prelude.{◌≡◌, ◌≤◌, ◌⊎◌, Err, IsErrAnd, Some, map};
-ghost use Rattle.np_frame.specs.Prelude.{objects_of, sourced};
+ghost use Rattle.np_frame.specs.Prelude.{NamesSomething, failure_text, objects_of, sourced};
 ghost use Rattle.np_cli.specs.Prelude.{Answers, Bytes, Cause, Counted, Promises, RoseAtMost, ran, steps_in};
 ghost use Rattle.np_cli.specs.Messages as messages;
-ghost use Rattle.np_command.specs.Prelude.{NamesSomething, Said, failure_text, sunk};
+ghost use Rattle.np_command.specs.Prelude.{Said, sunk};
 ghost use Rattle.np_args.specs.Prelude.{IsWell, asked_by};
 
 use crate::commands::{reply, report_notes};
@@ -11,7 +11,7 @@ use crate::outcome::{Ending, Outcome, status_of};
 use np_args::{Job, read_words};
 use np_base::Steps;
 use np_command::{Failure, Status};
-use np_frame::{names_of, read_all, read_objects};
+use np_frame::{constant_line, failure_line, names_of, read_all, read_objects};
 use np_io::{Inputs, Sink, write_whole};
 use std::alloc::Global;
 use std::sync::ledger::Ledger;
@@ -134,16 +134,17 @@ fn say<E: Sink>(alloc: Global, err: &mut E, outcome: Outcome) -> Outcome
     }
 }
 
-// Says a failure so, and answers the one that it said.
-fn say_failure<E: Sink>(alloc: Global, err: &mut E, failure: Failure) -> Failure
+/// Says a failure on the error sink, whose own failure changes nothing else, and answers the one that it said: `NoMemory` where
+/// the line of a failure that names something wants memory, and that is refused.
+pub fn say_failure<E: Sink>(alloc: Global, err: &mut E, failure: Failure) -> Failure
     ensures said { Said (sunk E.taken E.faults err.old err.new) (failure_text result) }
     ensures kept { (result ≡ failure) ⊎ ((result ≡ Failure.NoMemory) × NamesSomething failure) }
 {
-    if let Some(line) = failure.constant_line() {
+    if let Some(line) = constant_line(&failure) {
         tell(err, line);
         return failure;
     }
-    match format!(in alloc; "{failure}") {
+    match failure_line(alloc, &failure) {
         Ok(line) => {
             tell(err, line.as_str());
             failure

@@ -3,7 +3,7 @@ pub use Rattle.np_command.specs.Ends.{end_text, family_asked, only_family, or_un
 pub use Rattle.np_command.specs.Failures.{fold_failure, refusal_failure, words_failure, write_failure}
 pub use Rattle.np_command.specs.Inputs.{Gives, Refuses, lists_of, small_reading}
 unfoldable pub use Rattle.np_command.specs.Inputs.{small_estate}
-pub use Rattle.np_command.specs.Messages.{NamesSomething, failure_text, fault_text, usage_text}
+pub use Rattle.np_command.specs.Messages.{fault_text}
 pub use Rattle.np_command.specs.Prints.{Wrote, WroteAll, WroteFront, fault_in, text_in, without_value}
 pub use Rattle.np_command.specs.Sinks.{IsKept, Said, SinkTrace, TookWhole, sunk}
 pub use Rattle.np_command.specs.Statuses.{code_of, failure_status}

@@ -1,5 +1,4 @@
-//! What the commands share: how a report fails and what is said of that, the ends that words name, and what of a report a
-//! sink took.
+//! What the commands share: how a report fails, the ends that words name, and what of a report a sink took.
 #![tactic(auto)]
 
 mod ends;

@@ -1,1 +1,2 @@
+pub mod OneLineLemmas
 pub mod SourcesLemmas

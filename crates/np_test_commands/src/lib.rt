@@ -1,6 +1,9 @@
-//! The libraries of the commands, asked by name about lists as kubectl prints them. It holds tests alone.
+//! The libraries of the commands, asked by name about lists as kubectl prints them, and the program, asked as one that embeds it asks.
+//! It holds tests alone.
 #![tactic(auto)]
 
+#[cfg(test)]
+mod answered;
 #[cfg(test)]
 mod asked;
 #[cfg(test)]
