@@ -26,10 +26,7 @@ TOP = Path(__file__).resolve().parent.parent
 NOT_YET = ["np_check", "np_unused", "np_statements", "np_flatten", "np_table"]
 
 # What stands twice on purpose, since sharing it would cost more: its places, in the order of their names, and why.
-EXCEPTIONS = {
-    "np_command_unused/proofs/PromiseLemmas.antt unused_rules_of, np_test_commands/proofs/unused/unused_text/Answers.antt unused_rules_of":
-        "the crate below both, np_unused, is to have it",
-}
+EXCEPTIONS = {}
 
 SIGNATURE = re.compile(r"(?:(?:abbrev|unfoldable|pub) )*([^\s(){}:]+) : ")
 DECLARATION = re.compile(r"(?:pub )?(?:data|record) ([^\s(){}]+) (?:.* )?: ")

@@ -6,9 +6,9 @@ use Rattle.np_io.specs.Prelude.{Rose, bytes_of}
 use Rattle.np_io.specs.declared.held.Held.{Held}
 use Rattle.np_cli.specs.Prelude.{Bytes, CannotRead, CannotWrite, Cause, Ending, Failure, Fault, HaveFault, Job, KnowsBytes, NoMemory, Promises, Refused, Run, Says, SaysOfTexts, Status, TooLarge, Usage, answer_to, holding, message, outcome_on, output, refusal, status_of, text_of}
 use Rattle.np_cli.specs.declared.in_memory.Answered.{Answered}
-use Rattle.np_cli.proofs.OutcomesLemmas.{Leaves-caused}
+use Rattle.np_cli.proofs.OutcomesLemmas.{Leaves-caused, fault-text}
 use Rattle.np_cli.proofs.PromisesLemmas.{one_job}
-use Rattle.np_command.specs.Prelude.{Said, SinkTrace, fault_in, text_in}
+use Rattle.np_command.specs.Prelude.{Said, SinkTrace}
 use Rattle.np_frame.specs.Prelude.{AreTold, is_too_large}
 use Rattle.np_command.specs.declared.status.Status.TheVariants as status
 
@@ -35,13 +35,9 @@ outcome-is run (Err (CannotRead name)) texts cause tells reads writes other = ab
 outcome-is run (Err CannotWrite) texts cause tells reads writes other = absurd (writes cause.rose)
 outcome-is run (Err NoMemory) texts cause tells reads writes other = absurd (other refl)
 
-no_text : (reply : Result (List ℕ) Fault) (fault : Fault) → fault_in reply ≡ Some fault → text_in reply ≡ []
-no_text (Ok text) fault found = cc
-no_text (Err other) fault found = refl
-
 refused-output : (asked : Option Job) (job : Job) (fault : Fault) (texts : List (List ℕ)) → asked ≡ Some job → is_too_large texts ≡ false → refusal job texts ≡ Some fault → output asked texts ≡ []
 unfolding output text_of refusal
-refused-output asked job fault texts is fits found = rw (is, fits) (no_text _ fault found)
+refused-output asked job fault texts is fits found = rw (is, fits) (fault-text _ fault found)
 
 large-output : (asked : Option Job) (texts : List (List ℕ)) → is_too_large texts ≡ true → output asked texts ≡ []
 unfolding output

@@ -81,7 +81,7 @@ LeftLess run texts = (run.out.after ≡ run.out.before)
 took-nothing : (run : Run) (texts : List (List ℕ)) (text : List ℕ) → text ≡ [] → TookLess run.out.before run.out.after text → LeftLess run texts
 took-nothing run texts text none less = inl (took-none run.out.before run.out.after (subst (TookLess run.out.before run.out.after) none less))
 
-fault-text : (reply : Result (List ℕ) Fault) (fault : Fault) → fault_in reply ≡ Some fault → text_in reply ≡ []
+pub fault-text : (reply : Result (List ℕ) Fault) (fault : Fault) → fault_in reply ≡ Some fault → text_in reply ≡ []
 fault-text (Ok text) fault is = cc
 fault-text (Err other) fault is = refl
 
