@@ -7,8 +7,8 @@ use Rattle.std.proofs.lemmas.Option.{none-some, same_Some, cond_some, option_and
 use Rattle.std.specs.Int.Digits.{number_from_digits}
 use Rattle.std.specs.List.{join_with_byte}
 use Rattle.std.specs.Option.{option_or}
-use Rattle.np_addr.specs.Prelude.{AreGroups, IsColonHex, IsDotted, IsGroup, IsSide, around_gap, filled_of, group_of, halves_of, ipv4_of, ipv6_of, last_of, pieces, side_of, sides_of, whole_of, ◌>>=◌}
-use Rattle.np_addr.specs.Ipv6Grammar.{groups_of}
+use Rattle.np_addr.specs.Prelude.{AreGroups, IsColonHex, IsDotted, IsGroup, IsSide, around_gap, filled_of, halves_of, hex_group, ipv4_of, ipv6_of, last_groups, number_of_groups, number_of_sides, pieces, side_groups, ◌>>=◌}
+use Rattle.np_addr.specs.Ipv6Grammar.{groups_between}
 use Rattle.np_addr.proofs.DottedLemmas.{ipv4_of-dotted, dotted_from_ipv4, dotted_others, pieces-dotted, nested, part_others}
 use Rattle.np_addr.proofs.GapLemmas.{around_gap-colon, around_gap-piece, gap_after, around_gap-spelled}
 use Rattle.np_addr.proofs.NumeralLemmas.{numeral_of-numeral, Writes-from_numeral}
@@ -23,25 +23,25 @@ group_others text group is = IsOther-from_digits 16 58 text (lit≤ tt) is.numer
 dotted_no_colon : (text : List ℕ) (n : ℕ) → IsDotted text n → All (IsOther 58) text
 dotted_no_colon text n is = dotted_others 58 text n (lit≤ tt) refl is
 
-last_of-group : (dotted : Bool) (text : List ℕ) (group : ℕ) → IsGroup text group → last_of dotted text ≡ Some (group ∷ [])
-unfolding last_of
+last_of-group : (dotted : Bool) (text : List ℕ) (group : ℕ) → IsGroup text group → last_groups dotted text ≡ Some (group ∷ [])
+unfolding last_groups
 last_of-group dotted text group is = rw (numeral_of-numeral 16 4 text group is)
 
-last_of-dotted : (text : List ℕ) (n : ℕ) → IsDotted text n → last_of true text ≡ Some (halves_of n)
-unfolding last_of
+last_of-dotted : (text : List ℕ) (n : ℕ) → IsDotted text n → last_groups true text ≡ Some (halves_of n)
+unfolding last_groups
 last_of-dotted text n is =
     rw (numeral_of-cut 16 4 46 text is.first is.second (is.third ∷ is.fourth ∷ []) (lit≤ tt) (pieces-dotted text n is), ipv4_of-dotted text n is)
 
-pub groups_of-groups : (dotted : Bool) (text groups : List ℕ) → AreGroups dotted text groups → groups_of dotted (pieces 58 text) ≡ Some groups
+pub groups_of-groups : (dotted : Bool) (text groups : List ℕ) → AreGroups dotted text groups → groups_between dotted (pieces 58 text) ≡ Some groups
 groups_of-groups dotted text [] are = absurd are
 groups_of-groups dotted text (group ∷ groups) (inl (is, last)) =
-    ap (groups_of dotted) (pieces-one 58 text (group_others text group is)) ∙ last_of-group dotted text group is ∙ ap (λ gs. Some (group ∷ gs)) (sym last)
+    ap (groups_between dotted) (pieces-one 58 text (group_others text group is)) ∙ last_of-group dotted text group is ∙ ap (λ gs. Some (group ∷ gs)) (sym last)
 groups_of-groups dotted text (group ∷ groups) (inr (inl (first, rest, spelled, is, more))) =
     let cut = pieces-first 58 first rest (group_others first group is) in
-    ap (λ t. groups_of dotted (pieces 58 t)) (spelled ∙ append_assoc first (codes ":") rest) ∙ ap (groups_of dotted) cut ∙ groups_of-piece dotted first rest
+    ap (λ t. groups_between dotted (pieces 58 t)) (spelled ∙ append_assoc first (codes ":") rest) ∙ ap (groups_between dotted) cut ∙ groups_of-piece dotted first rest
     ∙ rw (numeral_of-numeral 16 4 first group is, groups_of-groups dotted rest groups more)
 groups_of-groups dotted text (group ∷ groups) (inr (inr (n, allowed, is, value))) =
-    ap (groups_of dotted) (pieces-one 58 text (dotted_no_colon text n is)) ∙ ap (λ b. last_of b text) allowed ∙ last_of-dotted text n is ∙ ap Some (sym value)
+    ap (groups_between dotted) (pieces-one 58 text (dotted_no_colon text n is)) ∙ ap (λ b. last_groups b text) allowed ∙ last_of-dotted text n is ∙ ap Some (sym value)
 
 -- a text begins as its first piece does
 begins : (first behind text : List ℕ) → text ≡ first ++ behind → 0 < length first → All (IsOther 58) first → (c : ℕ) × (rest : List ℕ) × (text ≡ c ∷ rest) × IsOther 58 c
@@ -70,8 +70,8 @@ no_gap dotted text (group ∷ groups) rest (inr (inl (first, others, spelled, is
     ap around_gap nested ∙ around_gap-piece first (58 ∷ (others ++ rest)) (group_others first group is) colon
 no_gap dotted text (group ∷ groups) rest (inr (inr (n, allowed, is, value))) none = around_gap-piece text rest (dotted_no_colon text n is) none
 
-side_of-side : (dotted : Bool) (text groups : List ℕ) → IsSide dotted text groups → side_of dotted text ≡ Some groups
-side_of-side dotted text [] is = ap (side_of dotted) is
+side_of-side : (dotted : Bool) (text groups : List ℕ) → IsSide dotted text groups → side_groups dotted text ≡ Some groups
+side_of-side dotted text [] is = ap (side_groups dotted) is
 side_of-side dotted text (group ∷ groups) are =
     let (c, rest, shown, other) = starts_other dotted text (group ∷ groups) are in
     rw shown (rw shown at (groups_of-groups dotted text (group ∷ groups) are))
@@ -96,30 +96,30 @@ last_from_ipv4 : (text groups : List ℕ) (o : Option ℕ) → ipv4_of text ≡ 
 last_from_ipv4 text groups None is reads = absurd (none-some groups reads)
 last_from_ipv4 text groups (Some n) is reads = rw (← same_Some _ groups reads) (inr (inr (n, refl, dotted_from_ipv4 text n is, refl)))
 
-last_from : (dotted : Bool) (text groups : List ℕ) (o : Option ℕ) → group_of text ≡ o →
+last_from : (dotted : Bool) (text groups : List ℕ) (o : Option ℕ) → hex_group text ≡ o →
     option_or (option_map (λ group. group ∷ []) o) (cond dotted (option_map halves_of (ipv4_of text)) None) ≡ Some groups → AreGroups dotted text groups
 last_from dotted text groups (Some group) is reads = rw (← same_Some _ groups reads) (inl (Writes-from_numeral 16 4 text group is, refl))
 last_from true text groups None is reads = last_from_ipv4 text groups (ipv4_of text) refl reads
 last_from false text groups None is reads = absurd (none-some groups reads)
 
-groups_from_last : (dotted : Bool) (text groups : List ℕ) → last_of dotted text ≡ Some groups → AreGroups dotted text groups
-unfolding last_of
-groups_from_last dotted text groups reads = last_from dotted text groups (group_of text) refl reads
+groups_from_last : (dotted : Bool) (text groups : List ℕ) → last_groups dotted text ≡ Some groups → AreGroups dotted text groups
+unfolding last_groups
+groups_from_last dotted text groups reads = last_from dotted text groups (hex_group text) refl reads
 
-groups_from : (dotted : Bool) (ps : List (List ℕ)) (groups : List ℕ) → groups_of dotted ps ≡ Some groups → AreGroups dotted (join_with_byte 58 ps) groups
+groups_from : (dotted : Bool) (ps : List (List ℕ)) (groups : List ℕ) → groups_between dotted ps ≡ Some groups → AreGroups dotted (join_with_byte 58 ps) groups
 groups_from dotted [] groups reads = absurd (none-some groups reads)
 groups_from dotted (piece ∷ []) groups reads = groups_from_last dotted piece groups reads
 groups_from dotted (piece ∷ next ∷ ps) groups reads =
-    option_and_then_some _ (group_of piece) groups reads λ group reads_group more.
-    option_and_then_some _ (groups_of dotted (next ∷ ps)) groups more λ others reads_others value.
+    option_and_then_some _ (hex_group piece) groups reads λ group reads_group more.
+    option_and_then_some _ (groups_between dotted (next ∷ ps)) groups more λ others reads_others value.
     let rest = join_with_byte 58 (next ∷ ps) in
     let tail = groups_from dotted (next ∷ ps) others reads_others in
     rw (← same_Some _ groups value) (inr (inl (piece, rest, sym (append_assoc piece (codes ":") rest), Writes-from_numeral 16 4 piece group reads_group, tail)))
 
-groups_from_text : (dotted : Bool) (text groups : List ℕ) → groups_of dotted (pieces 58 text) ≡ Some groups → AreGroups dotted text groups
+groups_from_text : (dotted : Bool) (text groups : List ℕ) → groups_between dotted (pieces 58 text) ≡ Some groups → AreGroups dotted text groups
 groups_from_text dotted text groups reads = rw (join_with_byte-slice_split 58 text) at (groups_from dotted (pieces 58 text) groups reads)
 
-side_from : (dotted : Bool) (text groups : List ℕ) → side_of dotted text ≡ Some groups → IsSide dotted text groups
+side_from : (dotted : Bool) (text groups : List ℕ) → side_groups dotted text ≡ Some groups → IsSide dotted text groups
 side_from dotted [] [] reads = refl
 side_from dotted [] (group ∷ groups) reads = absurd (nil_cons (same_Some [] (group ∷ groups) reads))
   where
@@ -128,17 +128,17 @@ side_from dotted [] (group ∷ groups) reads = absurd (nil_cons (same_Some [] (g
 side_from dotted (c ∷ text) [] reads = absurd (groups_from_text dotted (c ∷ text) [] reads)
 side_from dotted (c ∷ text) (group ∷ groups) reads = groups_from_text dotted (c ∷ text) (group ∷ groups) reads
 
-whole_from : (text : List ℕ) (n : ℕ) → (groups_of true (pieces 58 text) >>= whole_of) ≡ Some n → (groups : List ℕ) × IsColonHex text groups × (n ≡ number_from_digits 65536 groups)
+whole_from : (text : List ℕ) (n : ℕ) → (groups_between true (pieces 58 text) >>= number_of_groups) ≡ Some n → (groups : List ℕ) × IsColonHex text groups × (n ≡ number_from_digits 65536 groups)
 whole_from text n reads =
-    option_and_then_some _ (groups_of true (pieces 58 text)) n reads λ groups reads_groups kept.
+    option_and_then_some _ (groups_between true (pieces 58 text)) n reads λ groups reads_groups kept.
     let (eight, value) = cond_some _ _ n kept in
     (groups, inl (groups_from_text true text groups reads_groups, eqb-true _ 8 eight), sym value)
 
-gapped_from : (text before after : List ℕ) (n : ℕ) → text ≡ before ++ 58 ∷ 58 ∷ after → (side_of false before >>= λ head. side_of true after >>= λ tail. filled_of head tail) ≡ Some n →
+gapped_from : (text before after : List ℕ) (n : ℕ) → text ≡ before ++ 58 ∷ 58 ∷ after → (side_groups false before >>= λ head. side_groups true after >>= λ tail. filled_of head tail) ≡ Some n →
     (groups : List ℕ) × IsColonHex text groups × (n ≡ number_from_digits 65536 groups)
 gapped_from text before after n spelled reads =
-    option_and_then_some _ (side_of false before) n reads λ head reads_head more.
-    option_and_then_some _ (side_of true after) n more λ tail reads_tail kept.
+    option_and_then_some _ (side_groups false before) n reads λ head reads_head more.
+    option_and_then_some _ (side_groups true after) n more λ tail reads_tail kept.
     let (room, value) = cond_some _ _ n kept in (
       head ++ replicate (8 - length head - length tail) 0 ++ tail,
       inr (record {
@@ -155,7 +155,7 @@ gapped_from text before after n spelled reads =
       sym value,
     )
 
-colon_hex_from_sides : (text : List ℕ) (n : ℕ) (o : Option (List ℕ × List ℕ)) → around_gap text ≡ o → sides_of text o ≡ Some n →
+colon_hex_from_sides : (text : List ℕ) (n : ℕ) (o : Option (List ℕ × List ℕ)) → around_gap text ≡ o → number_of_sides text o ≡ Some n →
     (groups : List ℕ) × IsColonHex text groups × (n ≡ number_from_digits 65536 groups)
 colon_hex_from_sides text n None is reads = whole_from text n reads
 colon_hex_from_sides text n (Some sides) is reads = gapped_from text sides.0 sides.1 n (around_gap-spelled text sides.0 sides.1 is) reads

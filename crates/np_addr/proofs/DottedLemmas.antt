@@ -7,16 +7,16 @@ use Rattle.std.proofs.lemmas.Option.{none-some, same_Some, cond_some, option_and
 use Rattle.std.specs.Char.{digit_value}
 use Rattle.std.specs.Int.Digits.{number_from_digits}
 use Rattle.std.specs.List.{join_with_byte}
-use Rattle.np_addr.specs.Prelude.{IsDotted, IsPart, dotted_of, ipv4_of, numeral_of, part_of, parts_of, pieces}
+use Rattle.np_addr.specs.Prelude.{IsDotted, IsPart, dotted_of, ipv4_of, numeral_of, octet_of, octets_of, pieces}
 use Rattle.np_addr.proofs.NumeralLemmas.{numeral_of-numeral, Writes-from_numeral}
 use Rattle.np_addr.proofs.PieceLemmas.{IsOther, pieces-one, pieces-first, IsOther-from_digits}
 
-part_of-part : (text : List ℕ) (n : ℕ) → IsPart text n → part_of text ≡ Some n
-unfolding part_of
+part_of-part : (text : List ℕ) (n : ℕ) → IsPart text n → octet_of text ≡ Some n
+unfolding octet_of
 part_of-part text n part = rw (numeral_of-numeral 10 3 text n part.0, le-leb n 255 part.1)
 
-IsPart-from_part : (text : List ℕ) (n : ℕ) → part_of text ≡ Some n → IsPart text n
-unfolding part_of
+IsPart-from_part : (text : List ℕ) (n : ℕ) → octet_of text ≡ Some n → IsPart text n
+unfolding octet_of
 IsPart-from_part text n reads =
     option_and_then_some _ (numeral_of 10 3 text) n reads λ m writes kept.
     let (fits, same) = cond_some _ m n kept in
@@ -29,8 +29,8 @@ part_others separator text n high part = IsOther-from_digits 10 separator text h
 pub nested : (a b c d : List ℕ) → a ++ codes "." ++ b ++ codes "." ++ c ++ codes "." ++ d ≡ a ++ 46 ∷ (b ++ 46 ∷ (c ++ 46 ∷ d))
 nested a b c d = simp append_assoc
 
-parts_of-parts : (a b c d : List ℕ) (w x y z : ℕ) → IsPart a w → IsPart b x → IsPart c y → IsPart d z → parts_of a b c d ≡ Some (number_from_digits 256 (w ∷ x ∷ y ∷ z ∷ []))
-unfolding parts_of
+parts_of-parts : (a b c d : List ℕ) (w x y z : ℕ) → IsPart a w → IsPart b x → IsPart c y → IsPart d z → octets_of a b c d ≡ Some (number_from_digits 256 (w ∷ x ∷ y ∷ z ∷ []))
+unfolding octets_of
 parts_of-parts a b c d w x y z is_a is_b is_c is_d =
     rw (part_of-part a w is_a, part_of-part b x is_b, part_of-part c y is_c, part_of-part d z is_d)
 
@@ -51,13 +51,13 @@ ipv4_of-dotted text n is =
     ∙ parts_of-parts is.first is.second is.third is.fourth is.a is.b is.c is.d is.parts.0 is.parts.1 is.parts.2 is.parts.3
     ∙ ap Some (sym is.value)
 
-dotted_from_parts : (text a b c d : List ℕ) (n : ℕ) → text ≡ a ++ 46 ∷ (b ++ 46 ∷ (c ++ 46 ∷ d)) → parts_of a b c d ≡ Some n → IsDotted text n
-unfolding parts_of
+dotted_from_parts : (text a b c d : List ℕ) (n : ℕ) → text ≡ a ++ 46 ∷ (b ++ 46 ∷ (c ++ 46 ∷ d)) → octets_of a b c d ≡ Some n → IsDotted text n
+unfolding octets_of
 dotted_from_parts text a b c d n joined reads =
-    option_and_then_some _ (part_of a) n reads λ w reads_a after_a.
-    option_and_then_some _ (part_of b) n after_a λ x reads_b after_b.
-    option_and_then_some _ (part_of c) n after_b λ y reads_c after_c.
-    option_and_then_some _ (part_of d) n after_c λ z reads_d value.
+    option_and_then_some _ (octet_of a) n reads λ w reads_a after_a.
+    option_and_then_some _ (octet_of b) n after_a λ x reads_b after_b.
+    option_and_then_some _ (octet_of c) n after_b λ y reads_c after_c.
+    option_and_then_some _ (octet_of d) n after_c λ z reads_d value.
     record {
       first = a;
       second = b;

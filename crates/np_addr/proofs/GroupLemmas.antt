@@ -6,7 +6,7 @@ use Rattle.std.proofs.lemmas.List.{length_push}
 use Rattle.std.proofs.lemmas.Nat.{pow-add, shr-shr, shr_high, mod-pow-add}
 use Rattle.std.proofs.lemmas.Int.Digits.{number_after_append}
 use Rattle.std.specs.Int.Digits.{number_from_digits, number_from_digits_after}
-use Rattle.np_addr.specs.Prelude.{at_most_eight, filled_of, group_at, low_groups, whole_of}
+use Rattle.np_addr.specs.Prelude.{at_most_eight, filled_of, group_at, low_groups, number_of_groups}
 
 pub length-low_groups : (count n : ℕ) → length (low_groups count n) ≡ count
 length-low_groups zero n = refl
@@ -69,7 +69,7 @@ number-filled head zeros tail m n head_fits tail_fits =
     ∙ ap₂ ◌+◌ (sym bits) (mod-eq_of_lt tail_fits)
 
 -- fewer than eight groups are no address
-pub whole_of-fewer : (count n : ℕ) → (count ≡ 8 → ⊥) → whole_of (low_groups count n) ≡ None
+pub whole_of-fewer : (count n : ℕ) → (count ≡ 8 → ⊥) → number_of_groups (low_groups count n) ≡ None
 whole_of-fewer count n fewer = rw (length-low_groups count n, ne_eqb count 8 fewer)
 
 -- so many groups leave no room for a zero group

@@ -9,7 +9,7 @@ use Rattle.std.proofs.lemmas.List.Sums.{length-filter, count_by-le-length}
 use Rattle.std.proofs.lemmas.Nat.{pow_pos, pow_below}
 use Rattle.std.specs.List.{list_any}
 use Rattle.np_base.proofs.Lists.{AllPairs-head, AllPairs-tail}
-use Rattle.np_addr.specs.Prelude.{Address, AddressRanges, AreDisjoint, Cidr, IsCidr, IsRightPrefixList, LiesIn, StandsBefore, base_of, cidr_has, is_covered, set_has, some_has}
+use Rattle.np_addr.specs.Prelude.{Address, AddressRanges, AreDisjoint, Cidr, IsCidr, IsRightPrefixList, LiesIn, StandsBefore, base_of, cidr_has, is_covered, set_has, some_block_has}
 use Rattle.np_addr.specs.declared.address.Address.TheVariants as address
 use Rattle.np_addr.specs.declared.cidr.Cidr.TheVariants as cidr
 use Rattle.np_addr.proofs.SameLists.{same_elements_same_lists}
@@ -82,7 +82,7 @@ same_place blocks i j d a disjoint in_i in_j has_i has_j =
     ]
 
 -- a block of a list with the set's addresses lies in one block of a right list
-lies_in_one : (set : AddressRanges) (blocks others : List Cidr) (k : ℕ) (d : Cidr) → IsRightPrefixList set blocks → All IsCidr others → ((a : Address) → some_has others a ≡ set_has set a) →
+lies_in_one : (set : AddressRanges) (blocks others : List Cidr) (k : ℕ) (d : Cidr) → IsRightPrefixList set blocks → All IsCidr others → ((a : Address) → some_block_has others a ≡ set_has set a) →
     k < length others → Any (LiesIn (get_or others k d)) blocks
 lies_in_one set blocks others k d right well exact within =
     right.greatest (get_or others k d) (well k d within) (λ a held. sym (exact a) ∙ list_any_at (λ block. cidr_has block a) others k d within held)
@@ -172,7 +172,7 @@ base_of_one blocks disjoint = λ i j d before in_j other (k, around, in_k, is, l
     let two = same_place blocks j k d base_j disjoint in_j in_k (base_is_in (get_or blocks j d)) around_j in
     omega arith)
 
-pub no_shorter_list : (set : AddressRanges) (blocks others : List Cidr) → IsRightPrefixList set blocks → All IsCidr others → ((a : Address) → some_has others a ≡ set_has set a) →
+pub no_shorter_list : (set : AddressRanges) (blocks others : List Cidr) → IsRightPrefixList set blocks → All IsCidr others → ((a : Address) → some_block_has others a ≡ set_has set a) →
     length blocks ≤ length others
 no_shorter_list set blocks others right well exact =
     as_many (λ block other. cidr_has other (base_of block)) (λ other. Any (LiesIn other) blocks) blocks others

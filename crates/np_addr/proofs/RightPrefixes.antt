@@ -8,7 +8,7 @@ use Rattle.std.proofs.lemmas.List.Folds.{list_any-append, list_any_none}
 use Rattle.std.proofs.lemmas.List.Kept.{AllPairs-cons}
 use Rattle.std.proofs.lemmas.Nat.{pow_pos, shr_split}
 use Rattle.std.proofs.Math.Bool.{or-false}
-use Rattle.np_addr.specs.Prelude.{Address, AddressRanges, AreDisjoint, Cidr, Family, IsAddressSet, IsCidr, IsRightPrefixList, LiesIn, Range, StandsBefore, block_at, blocks_in, cidr_has, is_covered, is_inside, prefixes_of, range_prefixes, set_has, some_has, width_of}
+use Rattle.np_addr.specs.Prelude.{Address, AddressRanges, AreDisjoint, Cidr, Family, IsAddressSet, IsCidr, IsRightPrefixList, LiesIn, Range, StandsBefore, block_at, blocks_in, cidr_has, is_covered, is_inside, prefixes_of, range_prefixes, set_has, some_block_has, width_of}
 use Rattle.np_base.specs.Ranges.{is_within, holds, IsAscending}
 use Rattle.np_base.proofs.Ranges.{is_within-past, holds-before}
 use Rattle.np_base.proofs.Lists.{AllPairs-append}
@@ -44,7 +44,7 @@ record AreBlocksIn (family : Family) (range : Range ℕ) (base free : ℕ) (bloc
   of_range : All (IsBetween family range.lo (range.hi + 1)) blocks
   well : All IsCidr blocks
   ordered : AllPairs EndsBefore blocks
-  members : (n : ℕ) → some_has blocks (address_at family n) ≡ (is_covered base free n && in_range range n)
+  members : (n : ℕ) → some_block_has blocks (address_at family n) ≡ (is_covered base free n && in_range range n)
   greatest : (inner fewer : ℕ) → fewer ≤ width_of family → inner % 2 ^ fewer ≡ 0 → base ≤ inner → inner + 2 ^ fewer ≤ base + 2 ^ free → range.lo ≤ inner → inner + 2 ^ fewer ≤ range.hi + 1 →
       Any (Spans family inner (inner + 2 ^ fewer)) blocks
 
@@ -133,7 +133,7 @@ cut_block family range base half xs ys short aligned out first second =
           second.of_block;
       members = λ n.
           list_any-append (λ block. cidr_has block (address_at family n)) xs ys
-          ∙ ap (λ (t : Bool). t || some_has ys (address_at family n)) (first.members n)
+          ∙ ap (λ (t : Bool). t || some_block_has ys (address_at family n)) (first.members n)
           ∙ ap (λ (t : Bool). (is_covered base half n && in_range range n) || t) (second.members n)
           ∙ both_parts (is_covered base half n) (is_covered middle half n) (in_range range n)
           ∙ ap (λ (t : Bool). t && in_range range n) (in_halves base half n);
@@ -161,7 +161,7 @@ record AreBlocksOf (family : Family) (from last : ℕ) (ranges : List (Range ℕ
   of_family : All (IsBetween family from (last + 1)) blocks
   well : All IsCidr blocks
   ordered : AllPairs EndsBefore blocks
-  members : (n : ℕ) → some_has blocks (address_at family n) ≡ holds (λ a. a) ranges n
+  members : (n : ℕ) → some_block_has blocks (address_at family n) ≡ holds (λ a. a) ranges n
   greatest : (inner fewer : ℕ) → fewer ≤ width_of family → inner % 2 ^ fewer ≡ 0 → ((n : ℕ) → inner ≤ n → n < inner + 2 ^ fewer → holds (λ a. a) ranges n ≡ true) →
       Any (Spans family inner (inner + 2 ^ fewer)) blocks
 
@@ -217,7 +217,7 @@ more_ranges family from last range ranges xs ys room ascends first more =
           let place = in_range-parts range n held in
           in_block-from 0 (width_of family) n (omega arith) (omega arith)) in
           list_any-append (λ block. cidr_has block (address_at family n)) xs ys
-          ∙ ap (λ (t : Bool). t || some_has ys (address_at family n)) (first.members n ∙ in_family)
+          ∙ ap (λ (t : Bool). t || some_block_has ys (address_at family n)) (first.members n ∙ in_family)
           ∙ ap (λ (t : Bool). in_range range n || t) (more.members n);
       greatest = λ inner fewer shorter rest every.
           let some = pow_pos fewer in
@@ -246,16 +246,16 @@ blocks_of_ranges family from last (range ∷ ranges) room ascends =
 -- ---- the blocks of both families
 
 exact_in_both : (set : AddressRanges) (end_four end_six : ℕ) (xs ys : List Cidr) → AreBlocksOf family.Four 0 end_four set.first xs → AreBlocksOf family.Six 0 end_six set.second ys → (a : Address) →
-    some_has (xs ++ ys) a ≡ set_has set a
+    some_block_has (xs ++ ys) a ≡ set_has set a
 exact_in_both set end_four end_six xs ys four six (address.Four n) =
     list_any-append (λ block. cidr_has block (address.Four n)) xs ys
-    ∙ ap (λ (t : Bool). t || some_has ys (address.Four n)) (four.members n)
+    ∙ ap (λ (t : Bool). t || some_block_has ys (address.Four n)) (four.members n)
     ∙ ap (λ (t : Bool). holds (λ a. a) set.first n || t) (list_any_none (λ block. cidr_has block (address.Four n)) ys
     (All-weaker (IsBetween family.Six 0 (end_six + 1)) (λ block. cidr_has block (address.Four n) ≡ false) (other_family_six 0 (end_six + 1) n) ys six.of_family))
     ∙ or-false (holds (λ a. a) set.first n)
 exact_in_both set end_four end_six xs ys four six (address.Six n) =
     list_any-append (λ block. cidr_has block (address.Six n)) xs ys
-    ∙ ap (λ (t : Bool). t || some_has ys (address.Six n)) (list_any_none (λ block. cidr_has block (address.Six n)) xs
+    ∙ ap (λ (t : Bool). t || some_block_has ys (address.Six n)) (list_any_none (λ block. cidr_has block (address.Six n)) xs
     (All-weaker (IsBetween family.Four 0 (end_four + 1)) (λ block. cidr_has block (address.Six n) ≡ false) (other_family_four 0 (end_four + 1) n) xs four.of_family))
     ∙ six.members n
 

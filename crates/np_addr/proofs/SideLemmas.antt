@@ -2,8 +2,8 @@
 use Rattle.std.proofs.Common.{◌≡◌, ℕ, ◌≤◌, Bool, true, false, cond, List, [], ◌∷◌, ◌++◌, length, Option, Some, None, option_map, refl, sym, ap, ◌∙◌, inl, inr, append_assoc, length-append, arith}
 use Rattle.std.proofs.lemmas.Bool.{leb-true, leb-false, lt-leb}
 use Rattle.std.proofs.lemmas.Option.{cond_some}
-use Rattle.np_addr.specs.Prelude.{at_most_eight, group_of, pieces, ◌>>=◌}
-use Rattle.np_addr.specs.Ipv6Grammar.{groups_of}
+use Rattle.np_addr.specs.Prelude.{at_most_eight, hex_group, pieces, ◌>>=◌}
+use Rattle.np_addr.specs.Ipv6Grammar.{groups_between}
 use Rattle.np_addr.proofs.PieceLemmas.{pieces-cases}
 
 -- the groups so far, and those that are found behind them
@@ -12,7 +12,7 @@ behind front found = option_map (λ groups. front ++ groups) found
 
 -- a piece in front of others is one group
 pub groups_of-piece : (dotted : Bool) (piece text : List ℕ) →
-    groups_of dotted (piece ∷ pieces 58 text) ≡ (group_of piece >>= λ group. groups_of dotted (pieces 58 text) >>= λ groups. Some (group ∷ groups))
+    groups_between dotted (piece ∷ pieces 58 text) ≡ (hex_group piece >>= λ group. groups_between dotted (pieces 58 text) >>= λ groups. Some (group ∷ groups))
 groups_of-piece dotted piece text =
     elim (pieces-cases 58 text) [
       | inl one ↦ rw one
@@ -24,19 +24,19 @@ behind-behind front group None = refl
 behind-behind front group (Some groups) = ap Some (sym (append_assoc front (group ∷ []) groups))
 
 -- one group more was read
-pub next_group : (dotted : Bool) (all : List (List ℕ)) (front rest piece after : List ℕ) (group : ℕ) → groups_of dotted all ≡ behind front (groups_of dotted (pieces 58 rest)) →
-    pieces 58 rest ≡ piece ∷ pieces 58 after → group_of piece ≡ Some group → groups_of dotted all ≡ behind (front ++ group ∷ []) (groups_of dotted (pieces 58 after))
+pub next_group : (dotted : Bool) (all : List (List ℕ)) (front rest piece after : List ℕ) (group : ℕ) → groups_between dotted all ≡ behind front (groups_between dotted (pieces 58 rest)) →
+    pieces 58 rest ≡ piece ∷ pieces 58 after → hex_group piece ≡ Some group → groups_between dotted all ≡ behind (front ++ group ∷ []) (groups_between dotted (pieces 58 after))
 next_group dotted all front rest piece after group so_far cut reads =
-    so_far ∙ ap (λ ps. behind front (groups_of dotted ps)) cut ∙ ap (behind front) (groups_of-piece dotted piece after)
-    ∙ ap (λ o. behind front (o >>= λ g. groups_of dotted (pieces 58 after) >>= λ groups. Some (g ∷ groups))) reads
-    ∙ behind-behind front group (groups_of dotted (pieces 58 after))
+    so_far ∙ ap (λ ps. behind front (groups_between dotted ps)) cut ∙ ap (behind front) (groups_of-piece dotted piece after)
+    ∙ ap (λ o. behind front (o >>= λ g. groups_between dotted (pieces 58 after) >>= λ groups. Some (g ∷ groups))) reads
+    ∙ behind-behind front group (groups_between dotted (pieces 58 after))
 
 -- where a piece is no group, there are no groups
-pub no_group : (dotted : Bool) (all : List (List ℕ)) (front rest piece after : List ℕ) → groups_of dotted all ≡ behind front (groups_of dotted (pieces 58 rest)) →
-    pieces 58 rest ≡ piece ∷ pieces 58 after → group_of piece ≡ None → groups_of dotted all ≡ None
+pub no_group : (dotted : Bool) (all : List (List ℕ)) (front rest piece after : List ℕ) → groups_between dotted all ≡ behind front (groups_between dotted (pieces 58 rest)) →
+    pieces 58 rest ≡ piece ∷ pieces 58 after → hex_group piece ≡ None → groups_between dotted all ≡ None
 no_group dotted all front rest piece after so_far cut reads =
-    so_far ∙ ap (λ ps. behind front (groups_of dotted ps)) cut ∙ ap (behind front) (groups_of-piece dotted piece after)
-    ∙ ap (λ o. behind front (o >>= λ g. groups_of dotted (pieces 58 after) >>= λ groups. Some (g ∷ groups))) reads
+    so_far ∙ ap (λ ps. behind front (groups_between dotted ps)) cut ∙ ap (behind front) (groups_of-piece dotted piece after)
+    ∙ ap (λ o. behind front (o >>= λ g. groups_between dotted (pieces 58 after) >>= λ groups. Some (g ∷ groups))) reads
 
 -- what is kept has room
 pub kept : (groups found : List ℕ) → at_most_eight (Some found) ≡ Some groups → (found ≡ groups) × (length groups ≤ 8)

@@ -6,17 +6,17 @@ use Rattle.np_addr.specs.Pieces.{pieces}
 use Rattle.np_addr.specs.Steps.{◌>>=◌}
 
 -- a part: one to three decimal digits, leading zeros among them, of a number of at most 255
-unfoldable pub part_of : List ℕ → Option ℕ
-part_of text = numeral_of 10 3 text >>= λ n. if nat_le n 255 then Some n else None
+unfoldable pub octet_of : List ℕ → Option ℕ
+octet_of text = numeral_of 10 3 text >>= λ n. if nat_le n 255 then Some n else None
 
 -- four parts, the first the highest
-unfoldable pub parts_of : List ℕ → List ℕ → List ℕ → List ℕ → Option ℕ
-parts_of first second third fourth = do
-  Some (number_from_digits 256 ((← part_of first) ∷ (← part_of second) ∷ (← part_of third) ∷ (← part_of fourth) ∷ []))
+unfoldable pub octets_of : List ℕ → List ℕ → List ℕ → List ℕ → Option ℕ
+octets_of first second third fourth = do
+  Some (number_from_digits 256 ((← octet_of first) ∷ (← octet_of second) ∷ (← octet_of third) ∷ (← octet_of fourth) ∷ []))
 
 -- what stands between dots is four parts
 abbrev pub dotted_of : List (List ℕ) → Option ℕ
-dotted_of (first ∷ second ∷ third ∷ fourth ∷ []) = parts_of first second third fourth
+dotted_of (first ∷ second ∷ third ∷ fourth ∷ []) = octets_of first second third fourth
 dotted_of pieces = None
 
 -- the number of an IPv4 address (46 is `.`)

@@ -8,27 +8,27 @@ use Rattle.np_addr.specs.Steps.{◌>>=◌}
 use Rattle.np_addr.specs.Ipv4Grammar.{ipv4_of}
 
 -- a group: one to four hexadecimal digits, of either case
-abbrev pub group_of : List ℕ → Option ℕ
-group_of text = numeral_of 16 4 text
+abbrev pub hex_group : List ℕ → Option ℕ
+hex_group text = numeral_of 16 4 text
 
 -- an IPv4 address as two groups
 abbrev pub halves_of : ℕ → List ℕ
 halves_of n = (n / 2 ^ 16) ∷ (n % 2 ^ 16) ∷ []
 
 -- the last piece: a group, or, where `dotted`, the last two groups written as an IPv4 address
-unfoldable pub last_of : Bool → List ℕ → Option (List ℕ)
-last_of dotted text = option_or (option_map (λ group. group ∷ []) (group_of text)) (if dotted then option_map halves_of (ipv4_of text) else None)
+unfoldable pub last_groups : Bool → List ℕ → Option (List ℕ)
+last_groups dotted text = option_or (option_map (λ group. group ∷ []) (hex_group text)) (if dotted then option_map halves_of (ipv4_of text) else None)
 
 -- the groups of what stands between colons
-abbrev pub groups_of : Bool → List (List ℕ) → Option (List ℕ)
-groups_of dotted [] = None
-groups_of dotted (piece ∷ []) = last_of dotted piece
-groups_of dotted (piece ∷ next ∷ pieces) = do Some ((← group_of piece) ∷ (← groups_of dotted (next ∷ pieces)))
+abbrev pub groups_between : Bool → List (List ℕ) → Option (List ℕ)
+groups_between dotted [] = None
+groups_between dotted (piece ∷ []) = last_groups dotted piece
+groups_between dotted (piece ∷ next ∷ pieces) = do Some ((← hex_group piece) ∷ (← groups_between dotted (next ∷ pieces)))
 
 -- the groups on one side of `::`, where there may be none
-abbrev pub side_of : Bool → List ℕ → Option (List ℕ)
-side_of dotted [] = Some []
-side_of dotted (c ∷ text) = groups_of dotted (pieces 58 (c ∷ text))
+abbrev pub side_groups : Bool → List ℕ → Option (List ℕ)
+side_groups dotted [] = Some []
+side_groups dotted (c ∷ text) = groups_between dotted (pieces 58 (c ∷ text))
 
 -- the text before the first `::` and the text after it (58 is `:`)
 abbrev pub around_gap : List ℕ → Option (List ℕ × List ℕ)
@@ -37,8 +37,8 @@ around_gap (a ∷ b ∷ text) =
 around_gap shorter = None
 
 -- all eight groups, the first the highest
-abbrev pub whole_of : List ℕ → Option ℕ
-whole_of groups = if length groups == 8 then Some (number_from_digits 65536 groups) else None
+abbrev pub number_of_groups : List ℕ → Option ℕ
+number_of_groups groups = if length groups == 8 then Some (number_from_digits 65536 groups) else None
 
 -- fewer, and between them the zero groups for which `::` stands, at least one
 abbrev pub filled_of : List ℕ → List ℕ → Option ℕ
@@ -46,10 +46,10 @@ filled_of head tail = if nat_lt (length head + length tail) 8
     then Some (number_from_digits 65536 (head ++ replicate (8 - length head - length tail) 0 ++ tail)) else None
 
 -- without `::`, and with it
-abbrev pub sides_of : List ℕ → Option (List ℕ × List ℕ) → Option ℕ
-sides_of text None = groups_of true (pieces 58 text) >>= whole_of
-sides_of text (Some sides) = do filled_of (← side_of false sides.0) (← side_of true sides.1)
+abbrev pub number_of_sides : List ℕ → Option (List ℕ × List ℕ) → Option ℕ
+number_of_sides text None = groups_between true (pieces 58 text) >>= number_of_groups
+number_of_sides text (Some sides) = do filled_of (← side_groups false sides.0) (← side_groups true sides.1)
 
 -- the number of an IPv6 address
 unfoldable pub ipv6_of : List ℕ → Option ℕ
-ipv6_of text = sides_of text (around_gap text)
+ipv6_of text = number_of_sides text (around_gap text)

@@ -32,8 +32,8 @@ abbrev pub prefixes_of : AddressRanges → List Cidr
 prefixes_of set = flat_map (λ range. range_prefixes family.Four range) set.first ++ flat_map (λ range. range_prefixes family.Six range) set.second
 
 -- whether the address is in some block
-abbrev pub some_has : List Cidr → Address → Bool
-some_has blocks address = list_any (λ block. cidr_has block address) blocks
+abbrev pub some_block_has : List Cidr → Address → Bool
+some_block_has blocks address = list_any (λ block. cidr_has block address) blocks
 
 -- each address of the first block is in the second
 abbrev pub LiesIn : Cidr → Cidr → Type 0
@@ -56,5 +56,5 @@ pub record IsRightPrefixList (set : AddressRanges) (blocks : List Cidr) : Type 0
   pub well : All IsCidr blocks
   pub disjoint : AllPairs AreDisjoint blocks
   pub ascending : AllPairs StandsBefore blocks
-  pub exact : (address : Address) → some_has blocks address ≡ set_has set address
+  pub exact : (address : Address) → some_block_has blocks address ≡ set_has set address
   pub greatest : (block : Cidr) → IsCidr block → ((address : Address) → cidr_has block address ≡ true → set_has set address ≡ true) → Any (LiesIn block) blocks

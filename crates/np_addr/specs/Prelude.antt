@@ -7,14 +7,14 @@ pub use Rattle.np_addr.specs.Addresses.{IsAddress, IsCidr, cidr_has, family_of, 
 pub use Rattle.np_addr.specs.Blocks.{AddressRanges, IsAddressSet, base_of, bits_of, block_has, first_bad_except, is_strict_part, set_has}
 pub use Rattle.np_addr.specs.Groups.{at_most_eight}
 pub use Rattle.np_addr.specs.Ipv4Grammar.{dotted_of}
-unfoldable pub use Rattle.np_addr.specs.Ipv4Grammar.{ipv4_of, part_of, parts_of}
-pub use Rattle.np_addr.specs.Ipv6Grammar.{around_gap, filled_of, group_of, halves_of, side_of, sides_of, whole_of}
-unfoldable pub use Rattle.np_addr.specs.Ipv6Grammar.{ipv6_of, last_of}
+unfoldable pub use Rattle.np_addr.specs.Ipv4Grammar.{ipv4_of, octet_of, octets_of}
+pub use Rattle.np_addr.specs.Ipv6Grammar.{around_gap, filled_of, halves_of, hex_group, number_of_groups, number_of_sides, side_groups}
+unfoldable pub use Rattle.np_addr.specs.Ipv6Grammar.{ipv6_of, last_groups}
 pub use Rattle.np_addr.specs.Laws.{IsStrictSubset, IsZeroRun, SharesFirstBits}
 pub use Rattle.np_addr.specs.Numbers.{AreNumbersOf, is_covered, number_in}
 unfoldable pub use Rattle.np_addr.specs.Numeral.{numeral_of}
 pub use Rattle.np_addr.specs.Pieces.{pieces}
-pub use Rattle.np_addr.specs.Prefixes.{AreDisjoint, IsRightPrefixList, LiesIn, StandsBefore, block_at, is_inside, prefixes_of, range_prefixes, some_has}
+pub use Rattle.np_addr.specs.Prefixes.{AreDisjoint, IsRightPrefixList, LiesIn, StandsBefore, block_at, is_inside, prefixes_of, range_prefixes, some_block_has}
 unfoldable pub use Rattle.np_addr.specs.Prefixes.{blocks_in}
 pub use Rattle.np_addr.specs.Steps.{◌>>=◌}
 pub use Rattle.np_addr.specs.TextForms.{AreGroups, IsAddressText, IsCidrText, IsColonHex, IsDotted, IsGapped, IsGroup, IsLength, IsPart, IsSide, Writes}

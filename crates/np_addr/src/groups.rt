@@ -1,7 +1,7 @@
 //! The groups of an IPv6 address while they are read.
 ghost use Rattle.std.specs.Prelude.{◌≡◌, [], ◌∷◌, ◌++◌, Some};
 ghost use Rattle.np_addr.specs.Groups.{at_most_eight};
-ghost use Rattle.np_addr.specs.Ipv6Grammar.{whole_of, filled_of};
+ghost use Rattle.np_addr.specs.Ipv6Grammar.{number_of_groups, filled_of};
 
 use std::marker::Model;
 
@@ -49,7 +49,7 @@ impl Groups {
 
     // The number of an address of these groups, which are all eight.
     pub(crate) fn whole(self) -> Option<u128>
-        ensures { result ≡ whole_of self }
+        ensures { result ≡ number_of_groups self }
     {
         if self.count == 8 {
             Some(self.number)

@@ -1,6 +1,6 @@
 //! The text of IPv4 addresses.
 ghost use Rattle.std.specs.Prelude.{◌≡◌};
-ghost use Rattle.np_addr.specs.Prelude.{ipv4_of, part_of, parts_of};
+ghost use Rattle.np_addr.specs.Prelude.{ipv4_of, octet_of, octets_of};
 
 use crate::numeral::read_numeral;
 use crate::pieces::split_first;
@@ -17,9 +17,9 @@ pub(crate) fn read_ipv4(text: &str) -> Option<u32>
 }
 
 // The number of the four parts, the first the highest.
-#[tactic(auto, unfolding(crate::specs::Ipv4Grammar::parts_of))]
+#[tactic(auto, unfolding(crate::specs::Ipv4Grammar::octets_of))]
 fn read_parts(first: &str, second: &str, third: &str, fourth: &str) -> Option<u32>
-    ensures { result ≡ parts_of first.now second.now third.now fourth.now }
+    ensures { result ≡ octets_of first.now second.now third.now fourth.now }
 {
     Some(u32::from_be_bytes([
         read_part(first)?,
@@ -31,7 +31,7 @@ fn read_parts(first: &str, second: &str, third: &str, fourth: &str) -> Option<u3
 
 // One part.
 fn read_part(text: &str) -> Option<u8>
-    ensures { result ≡ part_of text.now }
+    ensures { result ≡ octet_of text.now }
 {
     u8::try_from(read_numeral(text, 10, 3)?).ok()
 }

@@ -1,7 +1,7 @@
 //! The text of IPv6 addresses.
 ghost use Rattle.std.specs.Prelude.{◌≡◌, ◌++◌, Some, None, MatchOption, option_map};
-ghost use Rattle.np_addr.specs.Prelude.{around_gap, at_most_eight, group_of, ipv6_of, last_of, pieces, side_of};
-ghost use Rattle.np_addr.specs.Ipv6Grammar.{groups_of};
+ghost use Rattle.np_addr.specs.Prelude.{around_gap, at_most_eight, hex_group, ipv6_of, last_groups, pieces, side_groups};
+ghost use Rattle.np_addr.specs.Ipv6Grammar.{groups_between};
 
 use crate::groups::Groups;
 use crate::ipv4::read_ipv4;
@@ -31,7 +31,7 @@ fn split_gap(text: &str) -> Option<(&str, &str)>
 
 // The groups on one side of `::`, where there may be none.
 fn read_side(text: &str, dotted: bool) -> Option<Groups>
-    ensures { result ≡ at_most_eight (side_of dotted text.now) }
+    ensures { result ≡ at_most_eight (side_groups dotted text.now) }
 {
     if text.is_empty() {
         return Some(Groups::new());
@@ -41,7 +41,7 @@ fn read_side(text: &str, dotted: bool) -> Option<Groups>
 
 // The groups between colons. Where `dotted`, the last two may be written as an IPv4 address.
 fn read_groups(text: &str, dotted: bool) -> Option<Groups>
-    ensures { result ≡ at_most_eight (groups_of dotted (pieces 58 text.now)) }
+    ensures { result ≡ at_most_eight (groups_between dotted (pieces 58 text.now)) }
 {
     let mut groups = Groups::new();
     let mut rest = text;
@@ -53,9 +53,9 @@ fn read_groups(text: &str, dotted: bool) -> Option<Groups>
 }
 
 // Adds the last piece: a group, or, where `dotted`, an IPv4 address as two groups.
-#[tactic(auto, unfolding(crate::specs::Ipv6Grammar::last_of))]
+#[tactic(auto, unfolding(crate::specs::Ipv6Grammar::last_groups))]
 fn push_last(groups: Groups, text: &str, dotted: bool) -> Option<Groups>
-    ensures { result ≡ at_most_eight (option_map (λ last. groups ++ last) (last_of dotted text.now)) }
+    ensures { result ≡ at_most_eight (option_map (λ last. groups ++ last) (last_groups dotted text.now)) }
 {
     if let Some(group) = read_group(text) {
         return groups.push(group);
@@ -71,7 +71,7 @@ fn push_last(groups: Groups, text: &str, dotted: bool) -> Option<Groups>
 
 // One group.
 fn read_group(text: &str) -> Option<u16>
-    ensures { result ≡ group_of text.now }
+    ensures { result ≡ hex_group text.now }
 {
     read_numeral(text, 16, 4)
 }

@@ -1,7 +1,7 @@
 //! Laws of the texts and of the blocks, in their own words.
 ghost use Rattle.std.specs.Prelude.{◌≡◌, ℕ, ◌≤◌, ◌↔◌, List, length, true, All, Some};
 ghost use Rattle.std.specs.Net.Text.{longest_zero_run};
-ghost use Rattle.np_addr.specs.Prelude.{AddressRanges, IsAddress, IsAddressSet, IsAddressText, IsCidr, IsCidrText, IsRightPrefixList, IsStrictSubset, IsZeroRun, SharesFirstBits, address_of, address_text, base_of, cidr_has, cidr_of, cidr_text, is_strict_part, prefixes_of, set_has, some_has};
+ghost use Rattle.np_addr.specs.Prelude.{AddressRanges, IsAddress, IsAddressSet, IsAddressText, IsCidr, IsCidrText, IsRightPrefixList, IsStrictSubset, IsZeroRun, SharesFirstBits, address_of, address_text, base_of, cidr_has, cidr_of, cidr_text, is_strict_part, prefixes_of, set_has, some_block_has};
 ghost use Rattle.np_addr.specs.declared.address.Address.{Address};
 ghost use Rattle.np_addr.specs.declared.cidr.Cidr.{Cidr};
 
@@ -62,5 +62,5 @@ pub fn one_prefix_list_is_right()
 /// No list of blocks with the same addresses is shorter than the right one.
 pub fn no_prefix_list_is_shorter()
     ensures { (set : AddressRanges) (blocks others : List Cidr) → IsRightPrefixList set blocks → All IsCidr others →
-        ((address : Address) → some_has others address ≡ set_has set address) → length blocks ≤ length others }
+        ((address : Address) → some_block_has others address ≡ set_has set address) → length blocks ≤ length others }
 {}

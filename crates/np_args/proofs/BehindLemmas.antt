@@ -7,12 +7,12 @@ use Rattle.clap.specs.Simple.{App, Shape, built, entered, filled, matches_of}
 use Rattle.clap.specs.Walk.{Held, Row, Rule, Walk, finished, has_row, nothing_held, reading_by, settled, walked}
 use Rattle.clap.specs.declared.parser.matches.ValueSource.TheVariants.{CommandLine}
 use Rattle.np_args.proofs.FileLemmas.{Ends, IsMet, TakesFiles, after, end, front, in_order, plain_end, start}
-use Rattle.np_args.specs.Prelude.{Text, are_files, asked_of, is_none, is_plain, or_standard_input}
+use Rattle.np_args.specs.Prelude.{Word, are_files, asked_of, is_empty, is_plain, or_standard_input}
 
 -- ---- words that end without a fault
 
 -- the walk over words, from nothing
-abbrev pub walk_over : App → List Text → Walk
+abbrev pub walk_over : App → List Word → Walk
 walk_over command words = fold (walked (built command).top.rules []) (start false nothing_held) words
 
 -- the faults of a walk, of its end and of what is missing there
@@ -25,36 +25,36 @@ faults_from whole faults final =
     (check_fault whole.top (finished whole.top.rules final.held) (is_some (entered whole final.stopped))))))
 
 -- A command without subcommands walks over the words behind its name.
-pub record IsWalked (command : App) (name : Text) : Type 0 where
-  pub fails : (words : List Text) → fault_of command (name ∷ words) ≡ faults_from (built command) (walk_fault (built command).top [] (start false nothing_held) words) (walk_over command words)
-  pub finds : (words : List Text) → matches_of command (name ∷ words) ≡ finished (built command).top.rules (walk_over command words).held
+pub record IsWalked (command : App) (name : Word) : Type 0 where
+  pub fails : (words : List Word) → fault_of command (name ∷ words) ≡ faults_from (built command) (walk_fault (built command).top [] (start false nothing_held) words) (walk_over command words)
+  pub finds : (words : List Word) → matches_of command (name ∷ words) ≡ finished (built command).top.rules (walk_over command words).held
 
 -- the walk over these words comes to what is held, without a fault
-pub record Holds (shape : Shape) (first : List Text) (held : Held) : Type 0 where
-  pub walks : (rest : List Text) → fold (walked shape.rules []) (start false nothing_held) (first ++ rest) ≡ fold (walked shape.rules []) (start false held) rest
-  pub passes : (rest : List Text) → walk_fault shape [] (start false nothing_held) (first ++ rest) ≡ walk_fault shape [] (start false held) rest
+pub record Holds (shape : Shape) (first : List Word) (held : Held) : Type 0 where
+  pub walks : (rest : List Word) → fold (walked shape.rules []) (start false nothing_held) (first ++ rest) ≡ fold (walked shape.rules []) (start false held) rest
+  pub passes : (rest : List Word) → walk_fault shape [] (start false nothing_held) (first ++ rest) ≡ walk_fault shape [] (start false held) rest
 
 -- what is held gives this with any files, and without them
-pub record Makes {T : Type 0} (command : App) (make : List Row → Option T) (held : Held) (options : List Row) (gives : List Text → Option T) : Type 0 where
+pub record Makes {T : Type 0} (command : App) (make : List Row → Option T) (held : Held) (options : List Row) (gives : List Word → Option T) : Type 0 where
   pub new : has_row (codes "FILE") options ≡ false
   pub met : IsMet (built command).top held options
-  pub clean : (done : List Text) (last : Text) → faults_from (built command) [] (after options false done last) ≡ []
-  pub made : (done : List Text) (last : Text) → make (finished (built command).top.rules (after options false done last).held) ≡ gives (done ++ last ∷ [])
+  pub clean : (done : List Word) (last : Word) → faults_from (built command) [] (after options false done last) ≡ []
+  pub made : (done : List Word) (last : Word) → make (finished (built command).top.rules (after options false done last).held) ≡ gives (done ++ last ∷ [])
   pub clean_alone : faults_from (built command) [] (start false held) ≡ []
   pub made_alone : make (finished (built command).top.rules held) ≡ gives (codes "-" ∷ [])
 
-module _ {T : Type 0} (command : App) (make : List Row → Option T) (name : Text) (is : IsWalked command name) where
+module _ {T : Type 0} (command : App) (make : List Row → Option T) (name : Word) (is : IsWalked command name) where
   -- such words ask for what was found
-  pub asked : (words : List Text) (final : Walk) → Ends (built command).top nothing_held words final → faults_from (built command) [] final ≡ []
+  pub asked : (words : List Word) (final : Walk) → Ends (built command).top nothing_held words final → faults_from (built command) [] final ≡ []
       → asked_of command make (name ∷ words) ≡ make (finished (built command).top.rules final.held)
   asked words final ends clean =
       let none : fault_of command (name ∷ words) ≡ [] = is.fails words ∙ ap₂ (faults_from (built command)) ends.passes ends.walks ∙ clean in
-      ap (λ (kinds : Kinds). if is_none kinds then make (matches_of command (name ∷ words)) else None) none
+      ap (λ (kinds : Kinds). if is_empty kinds then make (matches_of command (name ∷ words)) else None) none
       ∙ ap make (is.finds words) ∙ ap (λ (end : Walk). make (finished (built command).top.rules end.held)) ends.walks
 
   -- options and then files ask for what is made of both
-  pub optioned : TakesFiles (built command).top → (first : List Text) (held : Held) (options : List Row) (gives : List Text → Option T)
-      → Holds (built command).top first held → Makes command make held options gives → (names : List Text) → list_all is_plain names ≡ true
+  pub optioned : TakesFiles (built command).top → (first : List Word) (held : Held) (options : List Row) (gives : List Word → Option T)
+      → Holds (built command).top first held → Makes command make held options gives → (names : List Word) → list_all is_plain names ≡ true
       → asked_of command make (name ∷ first ++ names) ≡ gives (or_standard_input names)
   unfolding walk_fault
   optioned takes first held options gives holds makes [] plain =
@@ -74,19 +74,19 @@ nothing_met shape = record { settles = refl; passes = refl; other = refl }
 pub nothing_holds : (shape : Shape) → Holds shape [] nothing_held
 nothing_holds shape = record { walks = λ rest. refl; passes = λ rest. refl }
 
-pub once_or_alone : (names : List Text) → are_files names ≡ true → are_files (or_standard_input names) ≡ true
+pub once_or_alone : (names : List Word) → are_files names ≡ true → are_files (or_standard_input names) ≡ true
 once_or_alone [] once = refl
 once_or_alone (name ∷ names) once = once
 
 -- ---- one option
 
 -- what is held of an option whose value stands in a word of its own, or behind `=`
-abbrev pub apart : Text → Text → Held
+abbrev pub apart : Word → Word → Held
 apart name value = record nothing_held { pending = Some (name, value ∷ []) }
 
 abbrev pub joined : Row → Held
 joined row = record nothing_held { rows = row ∷ [] }
 
 -- what is found of an option with this value
-abbrev pub row_of_value : Rule → Text → Row
+abbrev pub row_of_value : Rule → Word → Row
 row_of_value rule value = record { id = rule.id; values = value ∷ []; count = None; source = Some CommandLine; reading = reading_by (filled rule) }

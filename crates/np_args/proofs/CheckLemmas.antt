@@ -10,10 +10,10 @@ use Rattle.clap.specs.Walk.{Row, Walk, finished, walked}
 use Rattle.np_addr.specs.Prelude.{◌>>=◌}
 use Rattle.np_args.proofs.BehindLemmas.{Holds, IsWalked, Makes, apart, faults_from, joined, optioned, row_of_value}
 use Rattle.np_args.proofs.FileLemmas.{TakesFiles, after, plain_words}
-use Rattle.np_args.specs.Prelude.{Check as CheckJob, Job, Text, are_files, check_command, check_job, check_of, checked_files, is_plain, is_standard_input, job_of, or_standard_input, required_rule}
+use Rattle.np_args.specs.Prelude.{Check as CheckJob, Job, Word, are_files, check_command, check_job, check_of, checked_files, is_plain, is_standard_input, job_of, or_standard_input, required_rule}
 
 -- the statement file and the files, where each is there
-abbrev pub checked_of : Option (List Text) → Option Text → Option Job
+abbrev pub checked_of : Option (List Word) → Option Word → Option Job
 checked_of files statement = do
   one ← files
   two ← statement
@@ -30,23 +30,23 @@ takes = record { by_place = refl; by_name = refl }
 check_walked : IsWalked check_command (codes "check")
 check_walked = record { fails = λ words. refl; finds = λ words. refl }
 
-abbrev statement_row : Text → Row
+abbrev statement_row : Word → Row
 statement_row value = row_of_value (required_rule (codes "statement")) value
 
 -- what is made of the files behind a statement file
-abbrev asks : Text → List Text → Option Job
+abbrev asks : Word → List Word → Option Job
 asks statement files = checked_of (checked_files files) (Some statement)
 
-clean : (value : Text) (done : List Text) (last : Text) → faults_from (built check_command) [] (after (statement_row value ∷ []) false done last) ≡ []
+clean : (value : Word) (done : List Word) (last : Word) → faults_from (built check_command) [] (after (statement_row value ∷ []) false done last) ≡ []
 unfolding defaults_fault
 clean value [] last = refl
 clean value (one ∷ more) last = refl
 
-made : (value : Text) (done : List Text) (last : Text) → check_of (finished shape.rules (after (statement_row value ∷ []) false done last).held) ≡ asks value (done ++ last ∷ [])
+made : (value : Word) (done : List Word) (last : Word) → check_of (finished shape.rules (after (statement_row value ∷ []) false done last).held) ≡ asks value (done ++ last ∷ [])
 made value [] last = refl
 made value (one ∷ more) last = refl
 
-held_apart : (value : Text) → is_plain value ≡ true → Holds shape (codes "--statement" ∷ value ∷ []) (apart (codes "statement") value)
+held_apart : (value : Word) → is_plain value ≡ true → Holds shape (codes "--statement" ∷ value ∷ []) (apart (codes "statement") value)
 unfolding clap_on_literals
 held_apart value plain =
     let no = plain_words value plain in
@@ -55,7 +55,7 @@ held_apart value plain =
       passes = λ rest. rw (no.hyphens, no.long, no.short) refl;
     }
 
-makes_apart : (value : Text) → Makes check_command check_of (apart (codes "statement") value) (statement_row value ∷ []) (asks value)
+makes_apart : (value : Word) → Makes check_command check_of (apart (codes "statement") value) (statement_row value ∷ []) (asks value)
 unfolding defaults_fault
 makes_apart value = record {
   new = refl;
@@ -66,11 +66,11 @@ makes_apart value = record {
   made_alone = refl;
 }
 
-held_joined : (value : Text) → Holds shape ((codes "--statement=" ++ value) ∷ []) (joined (statement_row value))
+held_joined : (value : Word) → Holds shape ((codes "--statement=" ++ value) ∷ []) (joined (statement_row value))
 unfolding clap_on_literals
 held_joined value = record { walks = λ rest. refl; passes = λ rest. refl }
 
-makes_joined : (value : Text) → Makes check_command check_of (joined (statement_row value)) (statement_row value ∷ []) (asks value)
+makes_joined : (value : Word) → Makes check_command check_of (joined (statement_row value)) (statement_row value ∷ []) (asks value)
 unfolding defaults_fault
 makes_joined value = record {
   new = refl;
@@ -82,14 +82,14 @@ makes_joined value = record {
 }
 
 -- one more name does not name standard input less often
-often_with : (statement : Text) (files : List Text) → are_files files ≡ false → are_files (statement ∷ files) ≡ false
+often_with : (statement : Word) (files : List Word) → are_files files ≡ false → are_files (statement ∷ files) ≡ false
 often_with statement files often =
     let more : count_by is_standard_input (statement ∷ files) ≡ (if is_standard_input statement then 1 else 0) + count_by is_standard_input files =
     sum_by-cons (λ name. if is_standard_input name then 1 else 0) statement files in
     false_from_ne_true _ (λ once. false≢true (sym often ∙ lt-ltb (count_by is_standard_input files) 2 (omega (arith, more, ltb-true (count_by is_standard_input (statement ∷ files)) 2 once))))
 
 -- the files are checked with the statement file
-with_statement : (statement : Text) (files : List Text) → asks statement files ≡ (if are_files (statement ∷ files) then Some (CheckJob statement files) else None)
+with_statement : (statement : Word) (files : List Word) → asks statement files ≡ (if are_files (statement ∷ files) then Some (CheckJob statement files) else None)
 with_statement statement files = go (are_files files) refl
   where
     go : (few : Bool) → are_files files ≡ few → asks statement files ≡ (if are_files (statement ∷ files) then Some (CheckJob statement files) else None)
@@ -98,7 +98,7 @@ with_statement statement files = go (are_files files) refl
         ap (λ (few : Bool). checked_of (if few then Some files else None) (Some statement)) often
         ∙ sym (ap (λ (few : Bool). if few then Some (CheckJob statement files) else None) (often_with statement files often))
 
-asked_apart : (statement : Text) (names : List Text) → is_plain statement ≡ true → list_all is_plain names ≡ true
+asked_apart : (statement : Word) (names : List Word) → is_plain statement ≡ true → list_all is_plain names ≡ true
     → job_of (codes "check" ∷ codes "--statement" ∷ statement ∷ names)
     ≡ (if are_files (statement ∷ or_standard_input names) then Some (CheckJob statement (or_standard_input names)) else None)
 unfolding check_job
@@ -107,7 +107,7 @@ asked_apart statement names word plain =
     (held_apart statement word) (makes_apart statement) names plain
     ∙ with_statement statement (or_standard_input names)
 
-asked_joined : (statement : Text) (names : List Text) → list_all is_plain names ≡ true
+asked_joined : (statement : Word) (names : List Word) → list_all is_plain names ≡ true
     → job_of (codes "check" ∷ (codes "--statement=" ++ statement) ∷ names)
     ≡ (if are_files (statement ∷ or_standard_input names) then Some (CheckJob statement (or_standard_input names)) else None)
 unfolding check_job
@@ -116,17 +116,17 @@ asked_joined statement names plain =
     (held_joined statement) (makes_joined statement) names plain
     ∙ with_statement statement (or_standard_input names)
 
-pub statement_apart : (statement : Text) (names : List Text) → is_plain statement ≡ true → list_all is_plain names ≡ true → are_files (statement ∷ or_standard_input names) ≡ true
+pub statement_apart : (statement : Word) (names : List Word) → is_plain statement ≡ true → list_all is_plain names ≡ true → are_files (statement ∷ or_standard_input names) ≡ true
     → job_of (codes "check" ∷ codes "--statement" ∷ statement ∷ names) ≡ Some (CheckJob statement (or_standard_input names))
 statement_apart statement names word plain once =
     asked_apart statement names word plain ∙ ap (λ (few : Bool). if few then Some (CheckJob statement (or_standard_input names)) else None) once
 
-pub statement_joined : (statement : Text) (names : List Text) → list_all is_plain names ≡ true → are_files (statement ∷ or_standard_input names) ≡ true
+pub statement_joined : (statement : Word) (names : List Word) → list_all is_plain names ≡ true → are_files (statement ∷ or_standard_input names) ≡ true
     → job_of (codes "check" ∷ (codes "--statement=" ++ statement) ∷ names) ≡ Some (CheckJob statement (or_standard_input names))
 statement_joined statement names plain once =
     asked_joined statement names plain ∙ ap (λ (few : Bool). if few then Some (CheckJob statement (or_standard_input names)) else None) once
 
-pub statement_twice : (statement : Text) (names : List Text) → list_all is_plain names ≡ true → are_files (statement ∷ or_standard_input names) ≡ false
+pub statement_twice : (statement : Word) (names : List Word) → list_all is_plain names ≡ true → are_files (statement ∷ or_standard_input names) ≡ false
     → job_of (codes "check" ∷ (codes "--statement=" ++ statement) ∷ names) ≡ None
 statement_twice statement names plain often =
     asked_joined statement names plain ∙ ap (λ (few : Bool). if few then Some (CheckJob statement (or_standard_input names)) else None) often

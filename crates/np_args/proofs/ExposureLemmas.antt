@@ -4,16 +4,16 @@ use Rattle.std.proofs.Common.{◌≡◌, ◌∙◌, ◌∷◌, ◌++◌, [], ap,
 use Rattle.clap.proofs.OnLiterals.{clap_on_literals}
 use Rattle.clap.specs.Walk.{Row, first_of}
 use Rattle.np_addr.specs.Prelude.{◌>>=◌}
-use Rattle.np_args.specs.Prelude.{Exposure as ExposureJob, Format, Job, Plain, Text, exposure_job, exposure_of, files_in, format_of, job_of, value_in}
+use Rattle.np_args.specs.Prelude.{Exposure as ExposureJob, Format, Job, Plain, Word, exposure_job, exposure_of, files_in, format_of, job_of, value_in}
 
 -- the workloads of these values, where each is there
-abbrev shown_of : Option Format → Option (List Text) → Option Text → Option Job
+abbrev shown_of : Option Format → Option (List Word) → Option Word → Option Job
 shown_of format files workload = do
   one ← format
   two ← files
   Some (ExposureJob workload one two)
 
-pub exposure_of-values : (rows : List Row) (format : Option Format) (files : Option (List Text)) (workload : Option Text)
+pub exposure_of-values : (rows : List Row) (format : Option Format) (files : Option (List Word)) (workload : Option Word)
     → value_in format_of (codes "format") rows ≡ format → files_in rows ≡ files → first_of (codes "workload") rows ≡ workload
     → exposure_of rows ≡ shown_of format files workload
 exposure_of-values rows format files workload one two three = rw (one, two, three) refl
@@ -25,15 +25,15 @@ unfolding exposure_job clap_on_literals
 all_exposed = refl
 
 -- the format, and no file
-asked_format : (value : Text) → job_of (codes "exposure" ∷ (codes "--format=" ++ value) ∷ []) ≡ shown_of (format_of value) (Some (codes "-" ∷ [])) None
+asked_format : (value : Word) → job_of (codes "exposure" ∷ (codes "--format=" ++ value) ∷ []) ≡ shown_of (format_of value) (Some (codes "-" ∷ [])) None
 unfolding exposure_job clap_on_literals
 asked_format value = refl
 
 -- the name, and no file
-pub exposed_workload : (name : Text) → job_of (codes "exposure" ∷ (codes "--workload=" ++ name) ∷ []) ≡ Some (ExposureJob (Some name) Plain (codes "-" ∷ []))
+pub exposed_workload : (name : Word) → job_of (codes "exposure" ∷ (codes "--workload=" ++ name) ∷ []) ≡ Some (ExposureJob (Some name) Plain (codes "-" ∷ []))
 unfolding exposure_job clap_on_literals
 exposed_workload name = refl
 
-pub exposed_format : (value : Text) (format : Format) → format_of value ≡ Some format
+pub exposed_format : (value : Word) (format : Format) → format_of value ≡ Some format
     → job_of (codes "exposure" ∷ (codes "--format=" ++ value) ∷ []) ≡ Some (ExposureJob None format (codes "-" ∷ []))
 exposed_format value format is = asked_format value ∙ ap (λ (one : Option Format). shown_of one (Some (codes "-" ∷ [])) None) is

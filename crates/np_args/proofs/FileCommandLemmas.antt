@@ -6,28 +6,28 @@ use Rattle.clap.specs.Simple.{built}
 use Rattle.clap.specs.Walk.{finished, nothing_held}
 use Rattle.np_args.proofs.BehindLemmas.{IsWalked, Makes, faults_from, nothing_holds, nothing_met, once_or_alone, optioned}
 use Rattle.np_args.proofs.FileLemmas.{TakesFiles, after}
-use Rattle.np_args.specs.Prelude.{Flatten as FlattenJob, Job, Text, Unused as UnusedJob, are_files, asked_of, checked_files, files_command, files_of, flatten_job, is_plain, job_of, or_standard_input, unused_job}
+use Rattle.np_args.specs.Prelude.{Flatten as FlattenJob, Job, Unused as UnusedJob, Word, are_files, asked_of, checked_files, files_command, files_of, flatten_job, is_plain, job_of, or_standard_input, unused_job}
 
 -- ---- words
 
-takes : (name : Text) → TakesFiles (built (files_command name)).top
+takes : (name : Word) → TakesFiles (built (files_command name)).top
 takes name = record { by_place = refl; by_name = refl }
 
-files_walked : (name : Text) → IsWalked (files_command name) name
+files_walked : (name : Word) → IsWalked (files_command name) name
 files_walked name = record { fails = λ words. refl; finds = λ words. refl }
 
-clean : (name : Text) (done : List Text) (last : Text) → faults_from (built (files_command name)) [] (after [] false done last) ≡ []
+clean : (name : Word) (done : List Word) (last : Word) → faults_from (built (files_command name)) [] (after [] false done last) ≡ []
 unfolding defaults_fault
 clean name [] last = refl
 clean name (one ∷ more) last = refl
 
 -- of the files any job is made
-module _ (job : List Text → Job) where
-  made : (name : Text) (done : List Text) (last : Text) → files_of job (finished (built (files_command name)).top.rules (after [] false done last).held) ≡ option_map job (checked_files (done ++ last ∷ []))
+module _ (job : List Word → Job) where
+  made : (name : Word) (done : List Word) (last : Word) → files_of job (finished (built (files_command name)).top.rules (after [] false done last).held) ≡ option_map job (checked_files (done ++ last ∷ []))
   made name [] last = refl
   made name (one ∷ more) last = refl
 
-  makes_files : (name : Text) → Makes (files_command name) (files_of job) nothing_held [] (λ files. option_map job (checked_files files))
+  makes_files : (name : Word) → Makes (files_command name) (files_of job) nothing_held [] (λ files. option_map job (checked_files files))
   unfolding defaults_fault
   makes_files name = record {
     new = refl;
@@ -39,16 +39,16 @@ module _ (job : List Text → Job) where
   }
 
   -- words that are no options are files
-  files_named : (name : Text) (names : List Text) → list_all is_plain names ≡ true → are_files names ≡ true → asked_of (files_command name) (files_of job) (name ∷ names) ≡ Some (job (or_standard_input names))
+  files_named : (name : Word) (names : List Word) → list_all is_plain names ≡ true → are_files names ≡ true → asked_of (files_command name) (files_of job) (name ∷ names) ≡ Some (job (or_standard_input names))
   files_named name names plain once =
       optioned (files_command name) (files_of job) name (files_walked name) (takes name) [] nothing_held [] (λ files. option_map job (checked_files files))
       (nothing_holds (built (files_command name)).top) (makes_files name) names plain
       ∙ ap (λ (few : Bool). option_map job (if few then Some (or_standard_input names) else None)) (once_or_alone names once)
 
-pub unused_files : (names : List Text) → list_all is_plain names ≡ true → are_files names ≡ true → job_of (codes "unused" ∷ names) ≡ Some (UnusedJob (or_standard_input names))
+pub unused_files : (names : List Word) → list_all is_plain names ≡ true → are_files names ≡ true → job_of (codes "unused" ∷ names) ≡ Some (UnusedJob (or_standard_input names))
 unfolding unused_job
 unused_files names plain once = files_named UnusedJob (codes "unused") names plain once
 
-pub flatten_files : (names : List Text) → list_all is_plain names ≡ true → are_files names ≡ true → job_of (codes "flatten" ∷ names) ≡ Some (FlattenJob (or_standard_input names))
+pub flatten_files : (names : List Word) → list_all is_plain names ≡ true → are_files names ≡ true → job_of (codes "flatten" ∷ names) ≡ Some (FlattenJob (or_standard_input names))
 unfolding flatten_job
 flatten_files names plain once = files_named FlattenJob (codes "flatten") names plain once

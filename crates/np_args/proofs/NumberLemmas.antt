@@ -5,10 +5,10 @@ use Rattle.std.proofs.lemmas.Fmt.{decimal-digits_value, decimal_is_IsNumeral, fi
 use Rattle.std.proofs.lemmas.Option.{none-some}
 use Rattle.std.proofs.lemmas.Str.Parse.{numerals_by_value, tells_digits}
 use Rattle.np_args.proofs.ValueLemmas.{IsNumber-from_word, number_to-number, number_to-some}
-use Rattle.np_args.specs.Prelude.{Text, is_plain, number_to}
+use Rattle.np_args.specs.Prelude.{Word, is_plain, number_to}
 
 -- the words that are numbers are the decimals of those from 1 to `most`
-pub number_to-decimal : (most : ℕ) → most < 2 ^ 32 → (word : Text) (number : ℕ) → (number_to most word ≡ Some number) ↔ ((1 ≤ number) × (number ≤ most) × (word ≡ decimal number))
+pub number_to-decimal : (most : ℕ) → most < 2 ^ 32 → (word : Word) (number : ℕ) → (number_to most word ≡ Some number) ↔ ((1 ≤ number) × (number ≤ most) × (word ≡ decimal number))
 number_to-decimal most fits word number = (reads, writes)
   where
     reads : number_to most word ≡ Some number → (1 ≤ number) × (number ≤ most) × (word ≡ decimal number)
@@ -34,7 +34,7 @@ number_to-decimal most fits word number = (reads, writes)
         })
 
 -- a number begins with no hyphen
-pub number_to-plain : (most : ℕ) (word : Text) (number : ℕ) → number_to most word ≡ Some number → is_plain word ≡ true
+pub number_to-plain : (most : ℕ) (word : Word) (number : ℕ) → number_to most word ≡ Some number → is_plain word ≡ true
 number_to-plain most [] number reads = refl
 number_to-plain most (first ∷ rest) number reads = go (first == 45) refl
   where

@@ -18,37 +18,37 @@ use Rattle.clap.specs.declared.error.kind.ErrorKind.TheVariants.{ArgumentConflic
 use Rattle.np_args.proofs.BehindLemmas.{faults_from, nothing_met}
 use Rattle.np_args.proofs.FileLemmas.{after, end, first_all_pass, front, start}
 use Rattle.np_args.proofs.ListLemmas.{rules, shape, takes}
-use Rattle.np_args.specs.Prelude.{Text, is_list_option, is_none, is_plain, job_of, list_command, list_job, list_of}
+use Rattle.np_args.specs.Prelude.{Word, is_empty, is_list_option, is_plain, job_of, list_command, list_job, list_job_of}
 
 -- words with a fault ask for nothing
-faulty : (words : List Text) (fault : ErrorKind) → walk_fault shape [] (start false nothing_held) words ≡ fault ∷ [] → job_of (codes "list" ∷ words) ≡ None
+faulty : (words : List Word) (fault : ErrorKind) → walk_fault shape [] (start false nothing_held) words ≡ fault ∷ [] → job_of (codes "list" ∷ words) ≡ None
 unfolding list_job
 faulty words fault is =
     let all : fault_of list_command (codes "list" ∷ words) ≡ fault ∷ [] =
     ap (λ (kinds : Kinds). faults_from (built list_command) kinds (walk rules [] nothing_held words)) is in
-    ap (λ (kinds : Kinds). if is_none kinds then list_of (matches_of list_command (codes "list" ∷ words)) else None) all
+    ap (λ (kinds : Kinds). if is_empty kinds then list_job_of (matches_of list_command (codes "list" ∷ words)) else None) all
 
 -- ---- options that `list` does not have
 
 -- where a word is met: before the first file, or after some
-abbrev at : Option (List Text × Text) → Walk
+abbrev at : Option (List Word × Word) → Walk
 at None = start false nothing_held
 at (Some files) = after [] false files.0 files.1
 
 -- the walk comes to such a word, and is refused
-refused : (names : List Text) (word : Text) (others : List Text) → list_all is_plain names ≡ true
-    → ((met : Option (List Text × Text)) → turn_fault shape [] (at met) word ≡ UnknownArgument ∷ [])
+refused : (names : List Word) (word : Word) (others : List Word) → list_all is_plain names ≡ true
+    → ((met : Option (List Word × Word)) → turn_fault shape [] (at met) word ≡ UnknownArgument ∷ [])
     → walk_fault shape [] (start false nothing_held) (names ++ word ∷ others) ≡ UnknownArgument ∷ []
 unfolding walk_fault
 refused [] word others plain unknown =
     ap (λ (kinds : Kinds). or_else kinds (walk_fault shape [] (walked shape.rules [] (start false nothing_held) word) others)) (unknown None)
 refused (name ∷ names) word others plain unknown =
-    let met : List Text × Text = (front [] name names, end name names) in
+    let met : List Word × Word = (front [] name names, end name names) in
     first_all_pass shape takes [] refl (word ∷ others) nothing_held (nothing_met shape) false name names plain
     ∙ ap (λ (kinds : Kinds). or_else kinds (walk_fault shape [] (walked shape.rules [] (at (Some met)) word) others)) (unknown (Some met))
 
-unknown_job : (names : List Text) (word : Text) (others : List Text) → list_all is_plain names ≡ true
-    → ((met : Option (List Text × Text)) → turn_fault shape [] (at met) word ≡ UnknownArgument ∷ [])
+unknown_job : (names : List Word) (word : Word) (others : List Word) → list_all is_plain names ≡ true
+    → ((met : Option (List Word × Word)) → turn_fault shape [] (at met) word ≡ UnknownArgument ∷ [])
     → job_of (codes "list" ∷ names ++ word ∷ others) ≡ None
 unknown_job names word others plain unknown =
     faulty (names ++ word ∷ others) UnknownArgument (refused names word others plain unknown)
@@ -56,7 +56,7 @@ unknown_job names word others plain unknown =
 -- ---- short options
 
 -- a text that is not empty has a first character
-first_char : (first : ℕ) (rest : Text) → IsUtf8 (first ∷ rest) → (x : ℕ) × (slice_get (chars (first ∷ rest)) 0 ≡ Some x)
+first_char : (first : ℕ) (rest : Word) → IsUtf8 (first ∷ rest) → (x : ℕ) × (slice_get (chars (first ∷ rest)) 0 ≡ Some x)
 first_char first rest text = go (chars (first ∷ rest)) (encodes-chars (first ∷ rest) text)
   where
     go : (all : List ℕ) → encode_utf8_all all ≡ first ∷ rest → (x : ℕ) × (slice_get all 0 ≡ Some x)
@@ -64,7 +64,7 @@ first_char first rest text = go (chars (first ∷ rest)) (encodes-chars (first �
     go (x ∷ xs) is = (x, refl)
 
 -- there are none
-bundle_unknown : (held : Held) (first : ℕ) (rest : Text) → held.skip ≡ 0 → IsUtf8 (first ∷ rest)
+bundle_unknown : (held : Held) (first : ℕ) (rest : Word) → held.skip ≡ 0 → IsUtf8 (first ∷ rest)
     → bundle_fault shape.rules shape.args_override_self (first ∷ rest) held ≡ UnknownArgument ∷ []
 unfolding flags_fault
 bundle_unknown held first rest none text =
@@ -75,22 +75,22 @@ bundle_unknown held first rest none text =
     ∙ ap (λ (found : Option ℕ). bundle_step_fault shape.rules shape.args_override_self found flags 0 bare (flags_fault shape.rules shape.args_override_self (length rest))) char.1
 
 -- a bundle of short options
-record IsBundle (flags : Text) : Type 0 where
+record IsBundle (flags : Word) : Type 0 where
   hyphens : bytes_eq (45 ∷ flags) (45 ∷ 45 ∷ []) ≡ false
   long : long_of (45 ∷ flags) ≡ None
   short : short_of (45 ∷ flags) ≡ Some flags
 
-bundle_word : (first : ℕ) (rest : Text) → (first == 45) ≡ false → IsBundle (first ∷ rest)
+bundle_word : (first : ℕ) (rest : Word) → (first == 45) ≡ false → IsBundle (first ∷ rest)
 bundle_word first rest other = record { hyphens = rw other refl; long = rw other refl; short = rw other refl }
 
-short_unknown : (first : ℕ) (rest : Text) → (first == 45) ≡ false → IsUtf8 (first ∷ rest) → (met : Option (List Text × Text))
+short_unknown : (first : ℕ) (rest : Word) → (first == 45) ≡ false → IsUtf8 (first ∷ rest) → (met : Option (List Word × Word))
     → turn_fault shape [] (at met) (45 ∷ first ∷ rest) ≡ UnknownArgument ∷ []
 short_unknown first rest other text None =
     let is = bundle_word first rest other in rw (is.hyphens, is.long, is.short, bundle_unknown (at None).held first rest refl text) refl
 short_unknown first rest other text (Some files) =
     let is = bundle_word first rest other in rw (is.hyphens, is.long, is.short, bundle_unknown (at (Some files)).held first rest refl text) refl
 
-pub short_job : (names : List Text) (first : ℕ) (rest : Text) (others : List Text) → list_all is_plain names ≡ true → IsUtf8 (first ∷ rest) → first ≢ 45
+pub short_job : (names : List Word) (first : ℕ) (rest : Word) (others : List Word) → list_all is_plain names ≡ true → IsUtf8 (first ∷ rest) → first ≢ 45
     → job_of (codes "list" ∷ names ++ (codes "-" ++ first ∷ rest) ∷ others) ≡ None
 short_job names first rest others plain text other =
     unknown_job names (45 ∷ first ∷ rest) others plain (short_unknown first rest (ne_eqb first 45 other) text)
@@ -98,7 +98,7 @@ short_job names first rest others plain text other =
 -- ---- long options
 
 -- the name of an option, without what follows an `=` (61)
-no_rule : (name : Text) → is_list_option name ≡ false → arg_by_long rules name ≡ None
+no_rule : (name : Word) → is_list_option name ≡ false → arg_by_long rules name ≡ None
 no_rule name other =
     let format = or_parts (bytes_eq (codes "format") name) _ other in
     let report = or_parts (bytes_eq (codes "report") name) _ format.1 in
@@ -107,12 +107,12 @@ no_rule name other =
     let side = or_parts (bytes_eq (codes "side") name) _ focus.1 in
     rw (format.0, report.0, controller.0, focus.0, side.0) refl
 
-long_unknown : (first : ℕ) (rest : Text) → is_list_option (before_first (λ c. c == 61) (first ∷ rest)) ≡ false → (met : Option (List Text × Text))
+long_unknown : (first : ℕ) (rest : Word) → is_list_option (before_first (λ c. c == 61) (first ∷ rest)) ≡ false → (met : Option (List Word × Word))
     → turn_fault shape [] (at met) (45 ∷ 45 ∷ first ∷ rest) ≡ UnknownArgument ∷ []
 long_unknown first rest other None = let none = no_rule (before_first (λ c. c == 61) (first ∷ rest)) other in rw none refl
 long_unknown first rest other (Some files) = let none = no_rule (before_first (λ c. c == 61) (first ∷ rest)) other in rw none refl
 
-pub long_job : (names : List Text) (first : ℕ) (rest : Text) (others : List Text) → list_all is_plain names ≡ true
+pub long_job : (names : List Word) (first : ℕ) (rest : Word) (others : List Word) → list_all is_plain names ≡ true
     → is_list_option (before_first (λ c. c == 61) (first ∷ rest)) ≡ false
     → job_of (codes "list" ∷ names ++ (codes "--" ++ first ∷ rest) ∷ others) ≡ None
 long_job names first rest others plain other = unknown_job names (45 ∷ 45 ∷ first ∷ rest) others plain (long_unknown first rest other)
@@ -120,8 +120,8 @@ long_job names first rest others plain other = unknown_job names (45 ∷ 45 ∷ 
 -- ---- an option that is given twice
 
 -- two words that give it
-abbrev IsRefused : Text → Type 0
-IsRefused name = (first second : Text) (others : List Text)
+abbrev IsRefused : Word → Type 0
+IsRefused name = (first second : Word) (others : List Word)
     → job_of (codes "list" ∷ (codes "--" ++ name ++ codes "=" ++ first) ∷ (codes "--" ++ name ++ codes "=" ++ second) ∷ others) ≡ None
 
 format_twice : IsRefused (codes "format")
@@ -144,10 +144,10 @@ side_twice : IsRefused (codes "side")
 unfolding clap_on_literals
 side_twice first second others = faulty _ ArgumentConflict refl
 
-named : (known name : Text) → bytes_eq known name ≡ true → IsRefused known → IsRefused name
+named : (known name : Word) → bytes_eq known name ≡ true → IsRefused known → IsRefused name
 named known name same refuses = subst IsRefused ((bytes_eq-Decides known name).0 same) refuses
 
-pub twice_job : (name : Text) → is_list_option name ≡ true → IsRefused name
+pub twice_job : (name : Word) → is_list_option name ≡ true → IsRefused name
 twice_job name known =
     elim (or_cases (bytes_eq (codes "format") name) _ known) [
       | inl format ↦ named (codes "format") name format format_twice

@@ -12,7 +12,7 @@ use Rattle.std.specs.Result.{result_ok}
 use Rattle.std.specs.Str.Parse.{AllDigits, ParsesUnsigned, digits_value}
 use Rattle.std.specs.Str.Pattern.{FindsChar}
 use Rattle.np_addr.specs.Prelude.{address_of}
-use Rattle.np_args.specs.Prelude.{At, Named, Text, end_of, number_to}
+use Rattle.np_args.specs.Prelude.{At, Named, Word, number_to, packet_end_of}
 
 -- ---- ends
 
@@ -25,7 +25,7 @@ any_at p (x ∷ xs) some = elim (or_cases (p x) (list_any p xs) some) [
 ]
 
 -- what `contains` says of a slash
-pub has_slash : (word : Text) (found : Bool)
+pub has_slash : (word : Word) (found : Bool)
     → MatchBool found ((i : ℕ) × (j : ℕ) × FindsChar 47 word (Some (i, j)) × (i ≤ j) × (j ≤ length word)) (FindsChar 47 word None)
     → found ≡ list_any (λ c. c == 47) word
 has_slash word found is = go found (contains_char 47 word found is (lit< tt))
@@ -37,7 +37,7 @@ has_slash word found is = go found (contains_char 47 word found is (lit< tt))
         sym (false_from_ne_true _ (λ some. let at = any_at (λ c. c == 47) word some in false≢true (says.1 at.0 at.1 (eqb-true (get_or word at.0 0) 47 at.2))))
 
 -- a word without a slash
-pub end_of-address : (word : Text) → false ≡ list_any (λ c. c == 47) word → end_of word ≡ option_map At (address_of word)
+pub end_of-address : (word : Word) → false ≡ list_any (λ c. c == 47) word → packet_end_of word ≡ option_map At (address_of word)
 end_of-address word none = ap (λ (slash : Bool). if slash then Some (Named word) else option_map At (address_of word)) (sym none)
 
 -- ---- numbers
@@ -53,19 +53,19 @@ AllDigits-from_test (c ∷ cs) passed =
     (ltb-true _ _ parts.0, AllDigits-from_test cs parts.1)
 
 -- the decimal of a number from 1 to `most`
-pub record IsNumber (most : ℕ) (word : Text) (number : ℕ) : Type 0 where
+pub record IsNumber (most : ℕ) (word : Word) (number : ℕ) : Type 0 where
   pub digits : AllDigits 10 word
   pub first : get_or word 0 0 ≢ 48
   pub value : digits_value 10 word ≡ number
   pub low : 1 ≤ number
   pub high : number ≤ most
 
-pub number_to-number : (most : ℕ) (word : Text) (number : ℕ) → IsNumber most word number → number_to most word ≡ Some number
+pub number_to-number : (most : ℕ) (word : Word) (number : ℕ) → IsNumber most word number → number_to most word ≡ Some number
 number_to-number most word number is =
     let first : (get_or word 0 0 == 48) ≡ false = ne_eqb _ 48 is.first in
     rw (list_all-digits word is.digits, first, is.value, le-leb 1 number is.low, le-leb number most is.high) refl
 
-pub IsNumber-from_word : (most : ℕ) (word : Text) (number : ℕ) → number_to most word ≡ Some number → IsNumber most word number
+pub IsNumber-from_word : (most : ℕ) (word : Word) (number : ℕ) → number_to most word ≡ Some number → IsNumber most word number
 IsNumber-from_word most word number reads =
     let read = cond_some _ _ _ reads in
     let highest = and_parts _ _ read.0 in
@@ -80,12 +80,12 @@ IsNumber-from_word most word number reads =
     }
 
 -- a word with a number is not empty
-pub number_to-some : (most : ℕ) (word : Text) (number : ℕ) → number_to most word ≡ Some number → 0 < length word
+pub number_to-some : (most : ℕ) (word : Word) (number : ℕ) → number_to most word ≡ Some number → 0 < length word
 number_to-some most [] number reads = absurd (none-some number reads)
 number_to-some most (c ∷ cs) number reads = omega arith
 
 -- a word that is no numeral has no number
-pub number_to-unparsed : {E : Type 0} (most : ℕ) (word : Text) (parsed : Result ℕ E) → most < 2 ^ 32 → ParsesUnsigned 32 10 word parsed
+pub number_to-unparsed : {E : Type 0} (most : ℕ) (word : Word) (parsed : Result ℕ E) → most < 2 ^ 32 → ParsesUnsigned 32 10 word parsed
     → get_or word 0 0 ≢ 43 → result_ok parsed ≡ None → number_to most word ≡ None
 number_to-unparsed most word (Ok n) fits reads unsigned none = absurd (none-some n (sym none))
 number_to-unparsed most word (Err e) fits reads unsigned none = go (number_to most word) refl
@@ -98,7 +98,7 @@ number_to-unparsed most word (Err e) fits reads unsigned none = go (number_to mo
         absurd (refused ((number_to-some most word number is, number_is.digits), omega (arith, number_is.value, number_is.high)))
 
 -- a numeral has its number, where that is in range
-pub number_to-parsed : {E : Type 0} (most : ℕ) (word : Text) (parsed : Result ℕ E) (n : ℕ) → ParsesUnsigned 32 10 word parsed
+pub number_to-parsed : {E : Type 0} (most : ℕ) (word : Word) (parsed : Result ℕ E) (n : ℕ) → ParsesUnsigned 32 10 word parsed
     → get_or word 0 0 ≢ 43 → get_or word 0 0 ≢ 48 → Some n ≡ result_ok parsed → number_to most word ≡ then_some (nat_le 1 n && nat_le n most) n
 number_to-parsed most word (Err e) n reads unsigned first is = absurd (none-some n (sym is))
 number_to-parsed most word (Ok m) n reads unsigned first is =

@@ -4,7 +4,7 @@ use Rattle.clap.specs.Simple.{App}
 use Rattle.clap.specs.Walk.{Row, first_of}
 use Rattle.np_addr.specs.Prelude.{◌>>=◌}
 use Rattle.np_args.specs.Arguments.{are_files, asked_of, command_of, file_rule, files_in, required_rule}
-use Rattle.np_args.specs.Values.{Text}
+use Rattle.np_args.specs.Values.{Word}
 use Rattle.np_args.specs.Types.{Check as CheckJob, Job}
 
 -- `check --statement FILE [FILE]...`
@@ -19,5 +19,5 @@ check_of rows = do
   if are_files (statement ∷ files) then Some (CheckJob statement files) else None
 
 -- what words ask for of which the first is `check`
-unfoldable pub check_job : List Text → Option Job
+unfoldable pub check_job : List Word → Option Job
 check_job words = asked_of check_command check_of words

@@ -10,16 +10,16 @@ use Rattle.np_args.specs.ExposureWords.{exposure_job}
 use Rattle.np_args.specs.FileWords.{flatten_job, unused_job}
 use Rattle.np_args.specs.ListWords.{list_job}
 use Rattle.np_args.specs.SampleWords.{sample_job}
-use Rattle.np_args.specs.Values.{Text}
+use Rattle.np_args.specs.Values.{Word}
 use Rattle.np_args.specs.Types.{Job}
 
 -- what the words of each command ask for, by its name
-abbrev pub jobs : List (Text × (List Text → Option Job))
+abbrev pub jobs : List (Word × (List Word → Option Job))
 jobs = (codes "list", list_job) ∷ (codes "explain", explain_job) ∷ (codes "exposure", exposure_job) ∷ (codes "evaluate", evaluate_job)
     ∷ (codes "unused", unused_job) ∷ (codes "check", check_job) ∷ (codes "flatten", flatten_job) ∷ (codes "sample", sample_job) ∷ []
 
 -- The first word is the command. Words that begin with no command ask for nothing.
-abbrev pub job_of : List Text → Option Job
+abbrev pub job_of : List Word → Option Job
 job_of [] = None
 job_of (command ∷ rest) = option_and_then (λ job. job (command ∷ rest)) (lookup (bytes_eq command) jobs)
 

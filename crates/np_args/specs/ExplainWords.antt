@@ -4,7 +4,7 @@ use Rattle.clap.specs.Simple.{App}
 use Rattle.clap.specs.Walk.{Row}
 use Rattle.np_addr.specs.Prelude.{◌>>=◌}
 use Rattle.np_args.specs.Arguments.{asked_of, command_of, file_rule, files_in, required_rule, value_in}
-use Rattle.np_args.specs.Values.{Text, end_of}
+use Rattle.np_args.specs.Values.{Word, packet_end_of}
 use Rattle.np_args.specs.Types.{Explain as ExplainJob, Job}
 
 -- `explain --from END --to END [FILE]...`
@@ -15,10 +15,10 @@ explain_command = command_of (codes "explain") (required_rule (codes "from") ∷
 abbrev pub explain_of : List Row → Option Job
 explain_of rows = do
   files ← files_in rows
-  from ← value_in end_of (codes "from") rows
-  to ← value_in end_of (codes "to") rows
+  from ← value_in packet_end_of (codes "from") rows
+  to ← value_in packet_end_of (codes "to") rows
   Some (ExplainJob from to files)
 
 -- what words ask for of which the first is `explain`
-unfoldable pub explain_job : List Text → Option Job
+unfoldable pub explain_job : List Word → Option Job
 explain_job words = asked_of explain_command explain_of words

@@ -4,7 +4,7 @@ use Rattle.clap.specs.Simple.{App}
 use Rattle.clap.specs.Walk.{Row, first_of}
 use Rattle.np_addr.specs.Prelude.{◌>>=◌}
 use Rattle.np_args.specs.Arguments.{asked_of, command_of, default_rule, file_rule, files_in, option_rule, value_in}
-use Rattle.np_args.specs.Values.{Text, format_of, report_of, side_of}
+use Rattle.np_args.specs.Values.{Word, focus_side_of, format_of, report_of}
 use Rattle.np_args.specs.Types.{Job, List as ListJob}
 
 -- `list [--format text|csv|json] [--report 1|2] [--controller NAME] [--focus NAME] [--side either|from|to] [FILE]...`
@@ -14,14 +14,14 @@ list_command = command_of (codes "list")
     ∷ option_rule (codes "focus") ∷ default_rule (codes "side") (codes "either") ∷ file_rule ∷ [])
 
 -- the table that was asked for
-abbrev pub list_of : List Row → Option Job
-list_of rows = do
+abbrev pub list_job_of : List Row → Option Job
+list_job_of rows = do
   format ← value_in format_of (codes "format") rows
   report ← value_in report_of (codes "report") rows
-  side ← value_in side_of (codes "side") rows
+  side ← value_in focus_side_of (codes "side") rows
   files ← files_in rows
   Some (ListJob format report (first_of (codes "controller") rows) (first_of (codes "focus") rows) side files)
 
 -- what words ask for of which the first is `list`
-unfoldable pub list_job : List Text → Option Job
-list_job words = asked_of list_command list_of words
+unfoldable pub list_job : List Word → Option Job
+list_job words = asked_of list_command list_job_of words

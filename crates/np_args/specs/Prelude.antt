@@ -1,5 +1,5 @@
 -- The definitions and types of this crate that its proofs and the crates above speak of, one import line a file.
-pub use Rattle.np_args.specs.Arguments.{are_files, asked_of, checked_files, command_of, default_rule, file_rule, files_in, is_none, is_standard_input, option_rule, required_rule, value_in}
+pub use Rattle.np_args.specs.Arguments.{are_files, asked_of, checked_files, command_of, default_rule, file_rule, files_in, is_empty, is_standard_input, option_rule, required_rule, value_in}
 pub use Rattle.np_args.specs.CheckWords.{check_command, check_of}
 unfoldable pub use Rattle.np_args.specs.CheckWords.{check_job}
 pub use Rattle.np_args.specs.CommandLines.{asked_by, job_of, jobs}
@@ -14,9 +14,9 @@ pub use Rattle.np_args.specs.FileWords.{files_command, files_of}
 unfoldable pub use Rattle.np_args.specs.FileWords.{flatten_job, unused_job}
 pub use Rattle.np_args.specs.Jobs.{IsWell}
 pub use Rattle.np_args.specs.Laws.{is_list_option, is_plain, or_standard_input, text_table}
-pub use Rattle.np_args.specs.ListWords.{list_command, list_of}
+pub use Rattle.np_args.specs.ListWords.{list_command, list_job_of}
 unfoldable pub use Rattle.np_args.specs.ListWords.{list_job}
 pub use Rattle.np_args.specs.SampleWords.{sample_command, sample_of}
 unfoldable pub use Rattle.np_args.specs.SampleWords.{sample_job}
 pub use Rattle.np_args.specs.Types.{At, Check, Csv, Destination, Either, EndWord, Evaluate, Explain, Exposure, Flatten, FocusSide, Format, Job, Json, List, Named, NoMemory, One, Plain, Proto, Report, Sample, Source, Two, Unused, Usage, WordsFault}
-pub use Rattle.np_args.specs.Values.{Text, count_of, end_of, format_of, number_to, port_of, report_of, side_of}
+pub use Rattle.np_args.specs.Values.{Word, count_of, focus_side_of, format_of, number_to, packet_end_of, packet_port_of, report_of}

@@ -4,7 +4,7 @@ use Rattle.clap.specs.Simple.{App, new_rule}
 use Rattle.clap.specs.Walk.{Row}
 use Rattle.clap.specs.declared.builder.action.ArgAction.TheVariants.{Set}
 use Rattle.np_args.specs.Arguments.{asked_of, command_of, value_in}
-use Rattle.np_args.specs.Values.{Text, count_of}
+use Rattle.np_args.specs.Values.{Word, count_of}
 use Rattle.np_args.specs.Types.{Job, Sample as SampleJob}
 
 -- `sample N`: one word, which must be given
@@ -16,5 +16,5 @@ abbrev pub sample_of : List Row → Option Job
 sample_of rows = option_map SampleJob (value_in count_of (codes "N") rows)
 
 -- what words ask for of which the first is `sample`
-unfoldable pub sample_job : List Text → Option Job
+unfoldable pub sample_job : List Word → Option Job
 sample_job words = asked_of sample_command sample_of words

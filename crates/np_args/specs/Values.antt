@@ -8,35 +8,35 @@ use Rattle.std.specs.Str.Parse.{digits_value}
 use Rattle.np_addr.specs.Prelude.{address_of}
 use Rattle.np_args.specs.Types.{At, Csv, Destination, Either, EndWord, FocusSide, Format, Json, Named, One, Plain, Report, Source, Two}
 
-abbrev pub Text : Type 0
-Text = List ℕ
+abbrev pub Word : Type 0
+Word = List ℕ
 
 -- `--format`
-abbrev pub format_of : Text → Option Format
+abbrev pub format_of : Word → Option Format
 format_of word = lookup (bytes_eq word) ((codes "text", Plain) ∷ (codes "csv", Csv) ∷ (codes "json", Json) ∷ [])
 
 -- `--report`
-abbrev pub report_of : Text → Option Report
+abbrev pub report_of : Word → Option Report
 report_of word = lookup (bytes_eq word) ((codes "1", One) ∷ (codes "2", Two) ∷ [])
 
 -- `--side`
-abbrev pub side_of : Text → Option FocusSide
-side_of word = lookup (bytes_eq word) ((codes "either", Either) ∷ (codes "from", Source) ∷ (codes "to", Destination) ∷ [])
+abbrev pub focus_side_of : Word → Option FocusSide
+focus_side_of word = lookup (bytes_eq word) ((codes "either", Either) ∷ (codes "from", Source) ∷ (codes "to", Destination) ∷ [])
 
 -- `--from` and `--to` of a packet: a word with a `/` (47) in it is a name, and any other must be an address.
-abbrev pub end_of : Text → Option EndWord
-end_of word = if list_any (λ c. c == 47) word then Some (Named word) else option_map At (address_of word)
+abbrev pub packet_end_of : Word → Option EndWord
+packet_end_of word = if list_any (λ c. c == 47) word then Some (Named word) else option_map At (address_of word)
 
 -- a number from 1 to `most` in decimal, without a sign or a leading zero (48 is `0`)
-abbrev pub number_to : ℕ → Text → Option ℕ
+abbrev pub number_to : ℕ → Word → Option ℕ
 number_to most word = let number = digits_value 10 word in
     if list_all (λ c. is_digit c 10) word && not (slice_index word 0 == 48) && nat_le 1 number && nat_le number most
     then Some number else None
 
 -- `--port`
-abbrev pub port_of : Text → Option ℕ
-port_of word = number_to 65535 word
+abbrev pub packet_port_of : Word → Option ℕ
+packet_port_of word = number_to 65535 word
 
 -- N of `sample`
-abbrev pub count_of : Text → Option ℕ
+abbrev pub count_of : Word → Option ℕ
 count_of word = number_to 1000 word

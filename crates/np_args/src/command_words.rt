@@ -6,7 +6,7 @@ ghost use Rattle.clap.specs.Simple.{App, app_of};
 ghost use Rattle.clap.specs.Walk.{Row, rows_of};
 ghost use Rattle.np_args.specs.Arguments.{asked_of};
 ghost use Rattle.np_args.specs.Jobs.{IsWell};
-ghost use Rattle.np_args.specs.Values.{Text};
+ghost use Rattle.np_args.specs.Values.{Word};
 ghost use Rattle.np_args.specs.declared.job.Job.{Job as SpecJob};
 
 use crate::job::Job;
@@ -17,7 +17,7 @@ use std::alloc::{AllocError, Global};
 /// A command: the words that it takes, and what they ask for.
 pub(crate) trait CommandWords {
     /// The job that words ask for of which the first is the command, if they ask for one.
-    ghost asked: { List Text → Option SpecJob };
+    ghost asked: { List Word → Option SpecJob };
 
     /// The command line, as clap takes it.
     ghost line: { App };
@@ -36,7 +36,7 @@ pub(crate) trait CommandWords {
         ensures usage { IsErrOf result WordsFault.Usage → made (rows_of (found_of matches.now)) ≡ None };
 
     /// Words ask for what is made of what is found on the command line.
-    ghost asks: { (words : List Text) → asked words ≡ asked_of line made words };
+    ghost asks: { (words : List Word) → asked words ≡ asked_of line made words };
 
     /// Clap says exactly what it answers for it.
     ghost exact: { is_simple_and_free line ≡ true };

@@ -16,12 +16,12 @@ pub enum EndWord {
 
 impl EndWord {
     ghost use Rattle.std.specs.Prelude.{◌≡◌, Some, None, IfOk, IsErrOf};
-    ghost use Rattle.np_args.specs.Values.{end_of};
+    ghost use Rattle.np_args.specs.Values.{packet_end_of};
 
     /// The end that the word names. `Usage` exactly where it has no `/` and is no address.
     pub fn of(alloc: Global, word: &str) -> Result<EndWord, WordsFault>
-        ensures end { IfOk result (λ end. end_of word.now ≡ Some end) }
-        ensures usage { IsErrOf result WordsFault.Usage → end_of word.now ≡ None }
+        ensures end { IfOk result (λ end. packet_end_of word.now ≡ Some end) }
+        ensures usage { IsErrOf result WordsFault.Usage → packet_end_of word.now ≡ None }
     {
         if word.contains('/') {
             return Ok(EndWord::Named(Text::of(alloc, word)?));

@@ -13,11 +13,11 @@ pub enum FocusSide {
 
 impl FocusSide {
     ghost use Rattle.std.specs.Prelude.{◌≡◌};
-    ghost use Rattle.np_args.specs.Values.{side_of};
+    ghost use Rattle.np_args.specs.Values.{focus_side_of};
 
     /// The side of this name: `either`, `from` or `to`. `None` where the name is none of the three.
     pub fn named(name: &str) -> Option<FocusSide>
-        ensures { result ≡ side_of name.now }
+        ensures { result ≡ focus_side_of name.now }
     {
         match name {
             "either" => Some(FocusSide::Either),

@@ -2,7 +2,7 @@
 ghost use Rattle.std.specs.Prelude.{◌≡◌, Some, None, IfOk, IsErrOf};
 ghost use Rattle.clap.specs.Matches.{found_of};
 ghost use Rattle.clap.specs.Walk.{first_of, rows_of};
-ghost use Rattle.np_args.specs.Prelude.{end_of, value_in};
+ghost use Rattle.np_args.specs.Prelude.{packet_end_of, value_in};
 
 use crate::end_word::EndWord;
 use crate::words_fault::WordsFault;
@@ -30,9 +30,9 @@ pub(crate) fn end_in(
     matches: &ArgMatches,
     option: &str,
 ) -> Result<EndWord, WordsFault>
-    ensures end { IfOk result (λ end. value_in end_of option.now (rows_of (found_of matches.now)) ≡ Some end) }
+    ensures end { IfOk result (λ end. value_in packet_end_of option.now (rows_of (found_of matches.now)) ≡ Some end) }
     ensures usage { IsErrOf result WordsFault.Usage →
-        value_in end_of option.now (rows_of (found_of matches.now)) ≡ None }
+        value_in packet_end_of option.now (rows_of (found_of matches.now)) ≡ None }
 {
     let word = matches.get_str(option).ok_or(WordsFault::Usage)?;
     EndWord::of(alloc, word)

@@ -4,7 +4,7 @@ ghost use Rattle.std.specs.Prelude.{◌≡◌, ◌≢◌, ◌==◌, ◌∷◌, �
 ghost use Rattle.std.specs.List.{before_first, list_all};
 ghost use Rattle.np_conns.specs.Prelude.{proto_named};
 ghost use Rattle.np_conns.specs.declared.proto.Proto.{Proto};
-ghost use Rattle.np_args.specs.Prelude.{Text, are_files, end_of, format_of, is_list_option, is_plain, job_of, or_standard_input, port_of, report_of, text_table};
+ghost use Rattle.np_args.specs.Prelude.{Word, are_files, format_of, is_list_option, is_plain, job_of, or_standard_input, packet_end_of, packet_port_of, report_of, text_table};
 ghost use Rattle.np_args.specs.declared.end_word.EndWord.{EndWord};
 ghost use Rattle.np_args.specs.declared.format.Format.{Format};
 ghost use Rattle.np_args.specs.declared.format.Format.TheVariants.{Plain};
@@ -16,17 +16,17 @@ ghost use Rattle.np_args.specs.declared.report.Report.TheVariants.{Two};
 /// a table as text, in report 2, of all rows. So are those after `unused` and after `flatten`. Where there is none, each
 /// reads standard input.
 pub fn words_without_options_are_files()
-    ensures list { (names : List Text) → list_all is_plain names ≡ true → are_files names ≡ true →
+    ensures list { (names : List Word) → list_all is_plain names ≡ true → are_files names ≡ true →
         job_of (codes "list" ∷ names) ≡ Some (text_table Two None None (or_standard_input names)) }
-    ensures unused { (names : List Text) → list_all is_plain names ≡ true → are_files names ≡ true →
+    ensures unused { (names : List Word) → list_all is_plain names ≡ true → are_files names ≡ true →
         job_of (codes "unused" ∷ names) ≡ Some (UnusedJob (or_standard_input names)) }
-    ensures flatten { (names : List Text) → list_all is_plain names ≡ true → are_files names ≡ true →
+    ensures flatten { (names : List Word) → list_all is_plain names ≡ true → are_files names ≡ true →
         job_of (codes "flatten" ∷ names) ≡ Some (FlattenJob (or_standard_input names)) }
 {}
 
 /// Words after `--` are names of files, whatever they begin with.
 pub fn words_after_two_hyphens_are_files()
-    ensures { (names others : List Text) → list_all is_plain names ≡ true → are_files (names ++ others) ≡ true →
+    ensures { (names others : List Word) → list_all is_plain names ≡ true → are_files (names ++ others) ≡ true →
         job_of (codes "list" ∷ names ++ codes "--" ∷ others)
         ≡ Some (text_table Two None None (or_standard_input (names ++ others))) }
 {}
@@ -34,26 +34,26 @@ pub fn words_after_two_hyphens_are_files()
 /// Before the files, a report stands in the word after `--report`, or behind `=`, and leaves the other options at their
 /// defaults. A value that is no report asks for nothing.
 pub fn report_is_read_after_its_option()
-    ensures apart { (value : Text) (report : Report) (names : List Text) → report_of value ≡ Some report →
+    ensures apart { (value : Word) (report : Report) (names : List Word) → report_of value ≡ Some report →
         list_all is_plain names ≡ true → are_files names ≡ true →
         job_of (codes "list" ∷ codes "--report" ∷ value ∷ names)
         ≡ Some (text_table report None None (or_standard_input names)) }
-    ensures joined { (value : Text) (report : Report) (names : List Text) → report_of value ≡ Some report →
+    ensures joined { (value : Word) (report : Report) (names : List Word) → report_of value ≡ Some report →
         list_all is_plain names ≡ true → are_files names ≡ true →
         job_of (codes "list" ∷ (codes "--report=" ++ value) ∷ names)
         ≡ Some (text_table report None None (or_standard_input names)) }
-    ensures refused { (value : Text) (names : List Text) → report_of value ≡ None → list_all is_plain names ≡ true →
+    ensures refused { (value : Word) (names : List Word) → report_of value ≡ None → list_all is_plain names ≡ true →
         job_of (codes "list" ∷ (codes "--report=" ++ value) ∷ names) ≡ None }
 {}
 
 /// Before the files, any text behind `--focus=` is a name. In a word of its own a name begins with no hyphen, or is the
 /// hyphen alone.
 pub fn focus_is_any_name()
-    ensures apart { (name : Text) (names : List Text) → is_plain name ≡ true →
+    ensures apart { (name : Word) (names : List Word) → is_plain name ≡ true →
         list_all is_plain names ≡ true → are_files names ≡ true →
         job_of (codes "list" ∷ codes "--focus" ∷ name ∷ names)
         ≡ Some (text_table Two None (Some name) (or_standard_input names)) }
-    ensures joined { (name : Text) (names : List Text) → list_all is_plain names ≡ true → are_files names ≡ true →
+    ensures joined { (name : Word) (names : List Word) → list_all is_plain names ≡ true → are_files names ≡ true →
         job_of (codes "list" ∷ (codes "--focus=" ++ name) ∷ names)
         ≡ Some (text_table Two None (Some name) (or_standard_input names)) }
 {}
@@ -61,18 +61,18 @@ pub fn focus_is_any_name()
 /// Before the files, any text behind `--controller=` is a name, and so is one in a word of its own that begins with no
 /// hyphen, or is the hyphen alone.
 pub fn controller_is_any_name()
-    ensures apart { (name : Text) (names : List Text) → is_plain name ≡ true →
+    ensures apart { (name : Word) (names : List Word) → is_plain name ≡ true →
         list_all is_plain names ≡ true → are_files names ≡ true →
         job_of (codes "list" ∷ codes "--controller" ∷ name ∷ names)
         ≡ Some (text_table Two (Some name) None (or_standard_input names)) }
-    ensures joined { (name : Text) (names : List Text) → list_all is_plain names ≡ true → are_files names ≡ true →
+    ensures joined { (name : Word) (names : List Word) → list_all is_plain names ≡ true → are_files names ≡ true →
         job_of (codes "list" ∷ (codes "--controller=" ++ name) ∷ names)
         ≡ Some (text_table Two (Some name) None (or_standard_input names)) }
 {}
 
 /// Words that begin with one option of `list` twice ask for nothing, whatever its values are and whatever follows.
 pub fn options_given_twice_ask_for_nothing()
-    ensures { (name : Text) → is_list_option name ≡ true → (first second : Text) (others : List Text) →
+    ensures { (name : Word) → is_list_option name ≡ true → (first second : Word) (others : List Word) →
         job_of (codes "list" ∷ (codes "--" ++ name ++ codes "=" ++ first)
         ∷ (codes "--" ++ name ++ codes "=" ++ second) ∷ others) ≡ None }
 {}
@@ -80,10 +80,10 @@ pub fn options_given_twice_ask_for_nothing()
 /// A word before `--` that begins with a hyphen, is more than that, and is no option of `list` asks for nothing: there are
 /// no options of one letter, and of those of two hyphens only five, whose names end before an `=` (61).
 pub fn other_options_ask_for_nothing()
-    ensures short { (names : List Text) (first : ℕ) (rest : Text) (others : List Text) →
+    ensures short { (names : List Word) (first : ℕ) (rest : Word) (others : List Word) →
         list_all is_plain names ≡ true → IsUtf8 (first ∷ rest) → first ≢ 45 →
         job_of (codes "list" ∷ names ++ (codes "-" ++ first ∷ rest) ∷ others) ≡ None }
-    ensures long { (names : List Text) (first : ℕ) (rest : Text) (others : List Text) →
+    ensures long { (names : List Word) (first : ℕ) (rest : Word) (others : List Word) →
         list_all is_plain names ≡ true → is_list_option (before_first (λ c. c == 61) (first ∷ rest)) ≡ false →
         job_of (codes "list" ∷ names ++ (codes "--" ++ first ∷ rest) ∷ others) ≡ None }
 {}
@@ -91,9 +91,9 @@ pub fn other_options_ask_for_nothing()
 /// The packet of `evaluate` is that of its four options, each with a value that its reader takes. Where no file is named,
 /// `evaluate` reads standard input.
 pub fn packet_is_read_of_its_options()
-    ensures { (from to proto port : Text) (source destination : EndWord) (named : Proto) (number : ℕ) →
-        end_of from ≡ Some source → end_of to ≡ Some destination →
-        proto_named proto ≡ Some named → port_of port ≡ Some number →
+    ensures { (from to proto port : Word) (source destination : EndWord) (named : Proto) (number : ℕ) →
+        packet_end_of from ≡ Some source → packet_end_of to ≡ Some destination →
+        proto_named proto ≡ Some named → packet_port_of port ≡ Some number →
         job_of (codes "evaluate" ∷ (codes "--from=" ++ from) ∷ (codes "--to=" ++ to)
         ∷ (codes "--protocol=" ++ proto) ∷ (codes "--port=" ++ port) ∷ [])
         ≡ Some (EvaluateJob source destination named number (codes "-" ∷ [])) }
@@ -102,7 +102,7 @@ pub fn packet_is_read_of_its_options()
 /// The ends of `explain` are those of its two options, each with a value that is an address or has a `/` in it. Where no
 /// file is named, `explain` reads standard input.
 pub fn ends_are_read_of_their_options()
-    ensures { (from to : Text) (source destination : EndWord) → end_of from ≡ Some source → end_of to ≡ Some destination →
+    ensures { (from to : Word) (source destination : EndWord) → packet_end_of from ≡ Some source → packet_end_of to ≡ Some destination →
         job_of (codes "explain" ∷ (codes "--from=" ++ from) ∷ (codes "--to=" ++ to) ∷ [])
         ≡ Some (ExplainJob source destination (codes "-" ∷ [])) }
 {}
@@ -111,9 +111,9 @@ pub fn ends_are_read_of_their_options()
 /// workload of any name, and with `--format=` it is in that format.
 pub fn exposure_is_of_all_or_of_one()
     ensures all { job_of (codes "exposure" ∷ []) ≡ Some (ExposureJob None Plain (codes "-" ∷ [])) }
-    ensures one { (name : Text) → job_of (codes "exposure" ∷ (codes "--workload=" ++ name) ∷ [])
+    ensures one { (name : Word) → job_of (codes "exposure" ∷ (codes "--workload=" ++ name) ∷ [])
         ≡ Some (ExposureJob (Some name) Plain (codes "-" ∷ [])) }
-    ensures format { (value : Text) (format : Format) → format_of value ≡ Some format →
+    ensures format { (value : Word) (format : Format) → format_of value ≡ Some format →
         job_of (codes "exposure" ∷ (codes "--format=" ++ value) ∷ []) ≡ Some (ExposureJob None format (codes "-" ∷ [])) }
 {}
 
@@ -121,15 +121,15 @@ pub fn exposure_is_of_all_or_of_one()
 /// begins with no hyphen, or is the hyphen alone. Words ask for nothing that name standard input twice among that file and
 /// the files, also where it stands for files that are not named, and none that name no statement file.
 pub fn statement_is_read_after_its_option()
-    ensures apart { (statement : Text) (names : List Text) → is_plain statement ≡ true →
+    ensures apart { (statement : Word) (names : List Word) → is_plain statement ≡ true →
         list_all is_plain names ≡ true → are_files (statement ∷ or_standard_input names) ≡ true →
         job_of (codes "check" ∷ codes "--statement" ∷ statement ∷ names)
         ≡ Some (CheckJob statement (or_standard_input names)) }
-    ensures joined { (statement : Text) (names : List Text) →
+    ensures joined { (statement : Word) (names : List Word) →
         list_all is_plain names ≡ true → are_files (statement ∷ or_standard_input names) ≡ true →
         job_of (codes "check" ∷ (codes "--statement=" ++ statement) ∷ names)
         ≡ Some (CheckJob statement (or_standard_input names)) }
-    ensures twice { (statement : Text) (names : List Text) →
+    ensures twice { (statement : Word) (names : List Word) →
         list_all is_plain names ≡ true → are_files (statement ∷ or_standard_input names) ≡ false →
         job_of (codes "check" ∷ (codes "--statement=" ++ statement) ∷ names) ≡ None }
     ensures standard_input { job_of (codes "check" ∷ codes "--statement" ∷ codes "-" ∷ []) ≡ None }
@@ -140,15 +140,15 @@ pub fn statement_is_read_after_its_option()
 /// do no word, and two words or more that begin with two that are no options.
 pub fn sample_takes_one_number()
     ensures number { (n : ℕ) → 1 ≤ n → n ≤ 1000 → job_of (codes "sample" ∷ decimal n ∷ []) ≡ Some (SampleJob n) }
-    ensures other { (word : Text) → is_plain word ≡ true → ((n : ℕ) → 1 ≤ n → n ≤ 1000 → word ≢ decimal n) →
+    ensures other { (word : Word) → is_plain word ≡ true → ((n : ℕ) → 1 ≤ n → n ≤ 1000 → word ≢ decimal n) →
         job_of (codes "sample" ∷ word ∷ []) ≡ None }
     ensures none { job_of (codes "sample" ∷ []) ≡ None }
-    ensures two { (first second : Text) (others : List Text) → is_plain first ≡ true → is_plain second ≡ true →
+    ensures two { (first second : Word) (others : List Word) → is_plain first ≡ true → is_plain second ≡ true →
         job_of (codes "sample" ∷ first ∷ second ∷ others) ≡ None }
 {}
 
 /// The words that are ports are the decimals of the numbers from 1 to 65535.
 pub fn ports_are_decimals()
-    ensures { (word : Text) (port : ℕ) →
-        (port_of word ≡ Some port) ↔ ((1 ≤ port) × (port ≤ 65535) × (word ≡ decimal port)) }
+    ensures { (word : Word) (port : ℕ) →
+        (packet_port_of word ≡ Some port) ↔ ((1 ≤ port) × (port ≤ 65535) × (word ≡ decimal port)) }
 {}

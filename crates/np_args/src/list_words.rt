@@ -1,7 +1,7 @@
 //! The command line of `list`.
 ghost use Rattle.std.specs.Prelude.{refl};
 ghost use Rattle.clap.proofs.OnLiterals.{clap_on_literals};
-ghost use Rattle.np_args.specs.ListWords.{list_command, list_job, list_of};
+ghost use Rattle.np_args.specs.ListWords.{list_command, list_job, list_job_of};
 
 use crate::arguments::{file, option_of, option_or};
 use crate::command_words::CommandWords;
@@ -23,7 +23,7 @@ impl CommandWords for ListWords {
 
     ghost line = { list_command };
 
-    ghost made = { list_of };
+    ghost made = { list_job_of };
 
     // `list [--format text|csv|json] [--report 1|2] [--controller NAME] [--focus NAME] [--side either|from|to] [FILE]...`
     fn line<'a>(alloc: Global) -> Result<Command<'a>, AllocError> {

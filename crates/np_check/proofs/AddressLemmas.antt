@@ -3,7 +3,7 @@ use Rattle.std.proofs.Common.{◌≡◌, ℕ, ◌+◌, ◌<◌, List, [], ◌∷
 use Rattle.std.specs.Option.{option_or}
 use Rattle.std.proofs.lemmas.List.{take_more}
 use Rattle.np_addr.specs.Prelude.{AddressRanges, family_of}
-use Rattle.np_check.specs.Prelude.{Address, At, BreakingAddress, Counterexample, Egress, EstateLists, Family, Ingress, PlaceEnd, PortSpot, Wanted, Work, addresses_of, breaks, broken_at, counterexample_at, counterexample_between, counterexample_in, earlier, families_between, first_broken_of, first_of, first_spot, number_of_address}
+use Rattle.np_check.specs.Prelude.{Address, At, BreakingAddress, Counterexample, Egress, EstateLists, Family, Ingress, PlaceEnd, PortSpot, Wanted, Work, addresses_of, breaks, broken_at, counterexample_at, counterexample_between, counterexample_in, earlier, families_between, first_broken_of, first_given, first_spot, number_of_address}
 use Rattle.np_check.proofs.BrokenLemmas.{broken_by}
 use Rattle.np_check.proofs.FirstLemmas.{first_of-append, first_of-none, first_of-one, first_of-option_map, first_of-same, from_either}
 use Rattle.np_check.proofs.MergeLemmas.{addresses-ascend, merge}
@@ -48,7 +48,7 @@ between_by lists wanted conns work address =
 -- from addresses to a workload
 pub all_to : (lists : EstateLists) (wanted : Wanted) (conns : Conns) (work : ℕ) (block : AddressRanges) (found : Option BreakingAddress) →
     found ≡ first_broken_of wanted conns block (address_allows lists (folding_of lists) work Ingress) →
-    option_map (counterexample_to work) found ≡ first_of (λ address. counterexample_between lists wanted conns (At address) (Work work)) (addresses_of block)
+    option_map (counterexample_to work) found ≡ first_given (λ address. counterexample_between lists wanted conns (At address) (Work work)) (addresses_of block)
 unfolding first_broken_of
 all_to lists wanted conns work block found is =
     ap (option_map (counterexample_to work)) is
@@ -59,7 +59,7 @@ all_to lists wanted conns work block found is =
 -- and from a workload to addresses
 pub all_by : (lists : EstateLists) (wanted : Wanted) (conns : Conns) (work : ℕ) (block : AddressRanges) (found : Option BreakingAddress) →
     found ≡ first_broken_of wanted conns block (address_allows lists (folding_of lists) work Egress) →
-    option_map (counterexample_by work) found ≡ first_of (λ address. counterexample_between lists wanted conns (Work work) (At address)) (addresses_of block)
+    option_map (counterexample_by work) found ≡ first_given (λ address. counterexample_between lists wanted conns (Work work) (At address)) (addresses_of block)
 unfolding first_broken_of
 all_by lists wanted conns work block found is =
     ap (option_map (counterexample_by work)) is
@@ -81,10 +81,10 @@ source_at source destination family None counterexample is = absurd (none_some c
 source_at source destination family (Some spot) counterexample is = sym (ap (λ (c : Counterexample). c.source) (same_counterexample (counterexample_at source destination family spot) counterexample is))
 
 source_in : (lists : EstateLists) (wanted : Wanted) (conns : Conns) (source destination : PlaceEnd) (families : List Family) (counterexample : Counterexample) →
-    first_of (counterexample_in lists wanted conns source destination) families ≡ Some counterexample → counterexample.source ≡ source
+    first_given (counterexample_in lists wanted conns source destination) families ≡ Some counterexample → counterexample.source ≡ source
 source_in lists wanted conns source destination [] counterexample is = absurd (none_some counterexample is)
 source_in lists wanted conns source destination (family ∷ families) counterexample is =
-    elim (from_either (counterexample_in lists wanted conns source destination family) (first_of (counterexample_in lists wanted conns source destination) families) counterexample is) [
+    elim (from_either (counterexample_in lists wanted conns source destination family) (first_given (counterexample_in lists wanted conns source destination) families) counterexample is) [
       | inl here ↦ source_at source destination family _ counterexample here
       | inr later ↦ source_in lists wanted conns source destination families counterexample later
     ]
@@ -95,10 +95,10 @@ unfolding counterexample_between
 source_of lists wanted conns source destination counterexample is = source_in lists wanted conns source destination (families_between lists source destination) counterexample is
 
 source_of_all : (lists : EstateLists) (wanted : Wanted) (conns : Conns) (source : PlaceEnd) (works : List ℕ) (counterexample : Counterexample) →
-    first_of (λ work. counterexample_between lists wanted conns source (Work work)) works ≡ Some counterexample → counterexample.source ≡ source
+    first_given (λ work. counterexample_between lists wanted conns source (Work work)) works ≡ Some counterexample → counterexample.source ≡ source
 source_of_all lists wanted conns source [] counterexample is = absurd (none_some counterexample is)
 source_of_all lists wanted conns source (work ∷ works) counterexample is =
-    elim (from_either (counterexample_between lists wanted conns source (Work work)) (first_of (λ work. counterexample_between lists wanted conns source (Work work)) works) counterexample is) [
+    elim (from_either (counterexample_between lists wanted conns source (Work work)) (first_given (λ work. counterexample_between lists wanted conns source (Work work)) works) counterexample is) [
       | inl here ↦ source_of lists wanted conns source (Work work) counterexample here
       | inr later ↦ source_of_all lists wanted conns source works counterexample later
     ]
@@ -106,30 +106,30 @@ source_of_all lists wanted conns source (work ∷ works) counterexample is =
 -- ---- one workload more
 
 pub no_works : (lists : EstateLists) (wanted : Wanted) (conns : Conns) (block : AddressRanges) →
-    None ≡ first_of (λ address. first_of (λ work. counterexample_between lists wanted conns (At address) (Work work)) []) (addresses_of block)
-no_works lists wanted conns block = sym (first_of-none (λ (address : Address). first_of (λ work. counterexample_between lists wanted conns (At address) (Work work)) []) (addresses_of block)
+    None ≡ first_given (λ address. first_given (λ work. counterexample_between lists wanted conns (At address) (Work work)) []) (addresses_of block)
+no_works lists wanted conns block = sym (first_of-none (λ (address : Address). first_given (λ work. counterexample_between lists wanted conns (At address) (Work work)) []) (addresses_of block)
     (λ address. refl))
 
 to_more : (lists : EstateLists) (wanted : Wanted) (conns : Conns) (works : List ℕ) (i : ℕ) (address : Address) → i < length works →
-    option_or (first_of (λ work. counterexample_between lists wanted conns (At address) (Work work)) (take i works)) (counterexample_between lists wanted conns (At address) (Work (get_or works i 0))) ≡ first_of
+    option_or (first_given (λ work. counterexample_between lists wanted conns (At address) (Work work)) (take i works)) (counterexample_between lists wanted conns (At address) (Work (get_or works i 0))) ≡ first_given
     (λ work. counterexample_between lists wanted conns (At address) (Work work)) (take (i + 1) works)
 to_more lists wanted conns works i address within =
     let gives = λ (work : ℕ). counterexample_between lists wanted conns (At address) (Work work) in
-    ap (λ last. option_or (first_of gives (take i works)) last) (sym (first_of-one gives (get_or works i 0)))
+    ap (λ last. option_or (first_given gives (take i works)) last) (sym (first_of-one gives (get_or works i 0)))
     ∙ sym (first_of-append gives (take i works) (get_or works i 0 ∷ []))
-    ∙ ap (first_of gives) (sym (take_more works i 0 within))
+    ∙ ap (first_given gives) (sym (take_more works i 0 within))
 
 pub one_work_more : (lists : EstateLists) (wanted : Wanted) (conns : Conns) (block : AddressRanges) (works : List ℕ) (i : ℕ) (first found : Option Counterexample) → i < length works →
-    first ≡ first_of (λ address. first_of (λ work. counterexample_between lists wanted conns (At address) (Work work)) (take i works)) (addresses_of block) →
-    found ≡ first_of (λ address. counterexample_between lists wanted conns (At address) (Work (get_or works i 0))) (addresses_of block) →
-    earlier first found ≡ first_of (λ address. first_of (λ work. counterexample_between lists wanted conns (At address) (Work work)) (take (i + 1) works)) (addresses_of block)
+    first ≡ first_given (λ address. first_given (λ work. counterexample_between lists wanted conns (At address) (Work work)) (take i works)) (addresses_of block) →
+    found ≡ first_given (λ address. counterexample_between lists wanted conns (At address) (Work (get_or works i 0))) (addresses_of block) →
+    earlier first found ≡ first_given (λ address. first_given (λ work. counterexample_between lists wanted conns (At address) (Work work)) (take (i + 1) works)) (addresses_of block)
 one_work_more lists wanted conns block works i first found within first_is found_is =
-    let before = λ (address : Address). first_of (λ work. counterexample_between lists wanted conns (At address) (Work work)) (take i works) in
+    let before = λ (address : Address). first_given (λ work. counterexample_between lists wanted conns (At address) (Work work)) (take i works) in
     let own = λ (address : Address). counterexample_between lists wanted conns (At address) (Work (get_or works i 0)) in
-    let after = λ (address : Address). first_of (λ work. counterexample_between lists wanted conns (At address) (Work work)) (take (i + 1) works) in
+    let after = λ (address : Address). first_given (λ work. counterexample_between lists wanted conns (At address) (Work work)) (take (i + 1) works) in
     let both = λ (address : Address). option_or (before address) (own address) in
     ap (λ (one : Option Counterexample). earlier one found) first_is
-    ∙ ap (λ (other : Option Counterexample). earlier (first_of before (addresses_of block)) other) found_is
+    ∙ ap (λ (other : Option Counterexample). earlier (first_given before (addresses_of block)) other) found_is
     ∙ sym (merge before own (addresses_of block) (λ address counterexample is. source_of_all lists wanted conns (At address) (take i works) counterexample is)
     (λ address counterexample is. source_of lists wanted conns (At address) (Work (get_or works i 0)) counterexample is) (addresses-ascend block))
     ∙ first_of-same both after (addresses_of block) (λ address. to_more lists wanted conns works i address within)

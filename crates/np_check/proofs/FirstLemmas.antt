@@ -7,40 +7,40 @@ use Rattle.std.proofs.lemmas.Bool.{cases_Bool, cases_eq}
 use Rattle.std.proofs.lemmas.Option.{none-some, same_Some}
 use Rattle.std.proofs.lemmas.List.Elements.{All-cons, All-head, All-nil, All-tail}
 use Rattle.np_base.proofs.Options.{option_or-none}
-use Rattle.np_check.specs.Prelude.{first_of}
+use Rattle.np_check.specs.Prelude.{first_given}
 
 or_or : {Y : Type 0} (a b c : Option Y) → option_or a (option_or b c) ≡ option_or (option_or a b) c
 or_or None b c = refl
 or_or (Some y) b c = refl
 
-pub first_of-append : {X Y : Type 0} (gives : X → Option Y) (xs ys : List X) → first_of gives (xs ++ ys) ≡ option_or (first_of gives xs) (first_of gives ys)
+pub first_of-append : {X Y : Type 0} (gives : X → Option Y) (xs ys : List X) → first_given gives (xs ++ ys) ≡ option_or (first_given gives xs) (first_given gives ys)
 first_of-append gives [] ys = refl
-first_of-append gives (x ∷ xs) ys = ap (λ rest. option_or (gives x) rest) (first_of-append gives xs ys) ∙ or_or (gives x) (first_of gives xs) (first_of gives ys)
+first_of-append gives (x ∷ xs) ys = ap (λ rest. option_or (gives x) rest) (first_of-append gives xs ys) ∙ or_or (gives x) (first_given gives xs) (first_given gives ys)
 
-pub first_of-one : {X Y : Type 0} (gives : X → Option Y) (x : X) → first_of gives (x ∷ []) ≡ gives x
+pub first_of-one : {X Y : Type 0} (gives : X → Option Y) (x : X) → first_given gives (x ∷ []) ≡ gives x
 first_of-one gives x = option_or-none (gives x)
 
-pub first_of-map : {W X Y : Type 0} (gives : X → Option Y) (to : W → X) (ws : List W) → first_of gives (map to ws) ≡ first_of (λ w. gives (to w)) ws
+pub first_of-map : {W X Y : Type 0} (gives : X → Option Y) (to : W → X) (ws : List W) → first_given gives (map to ws) ≡ first_given (λ w. gives (to w)) ws
 first_of-map gives to [] = refl
 first_of-map gives to (w ∷ ws) = ap (λ rest. option_or (gives (to w)) rest) (first_of-map gives to ws)
 
 -- what gives the same gives the same first
-pub first_of-same : {X Y : Type 0} (gives gives' : X → Option Y) (xs : List X) → ((x : X) → gives x ≡ gives' x) → first_of gives xs ≡ first_of gives' xs
+pub first_of-same : {X Y : Type 0} (gives gives' : X → Option Y) (xs : List X) → ((x : X) → gives x ≡ gives' x) → first_given gives xs ≡ first_given gives' xs
 first_of-same gives gives' [] same = refl
-first_of-same gives gives' (x ∷ xs) same = ap (λ first. option_or first (first_of gives xs)) (same x) ∙ ap (λ rest. option_or (gives' x) rest) (first_of-same gives gives' xs same)
+first_of-same gives gives' (x ∷ xs) same = ap (λ first. option_or first (first_given gives xs)) (same x) ∙ ap (λ rest. option_or (gives' x) rest) (first_of-same gives gives' xs same)
 
-pub first_of-same_all : {X Y : Type 0} (gives gives' : X → Option Y) (xs : List X) → All (λ x. gives x ≡ gives' x) xs → first_of gives xs ≡ first_of gives' xs
+pub first_of-same_all : {X Y : Type 0} (gives gives' : X → Option Y) (xs : List X) → All (λ x. gives x ≡ gives' x) xs → first_given gives xs ≡ first_given gives' xs
 first_of-same_all gives gives' [] same = refl
 first_of-same_all gives gives' (x ∷ xs) same =
-    ap (λ first. option_or first (first_of gives xs)) (All-head (λ y. gives y ≡ gives' y) x xs same)
+    ap (λ first. option_or first (first_given gives xs)) (All-head (λ y. gives y ≡ gives' y) x xs same)
     ∙ ap (λ rest. option_or (gives' x) rest) (first_of-same_all gives gives' xs (All-tail (λ y. gives y ≡ gives' y) x xs same))
 
-pub first_of-none : {X Y : Type 0} (gives : X → Option Y) (xs : List X) → ((x : X) → gives x ≡ None) → first_of gives xs ≡ None
+pub first_of-none : {X Y : Type 0} (gives : X → Option Y) (xs : List X) → ((x : X) → gives x ≡ None) → first_given gives xs ≡ None
 first_of-none gives [] none = refl
-first_of-none gives (x ∷ xs) none = ap (λ first. option_or first (first_of gives xs)) (none x) ∙ first_of-none gives xs none
+first_of-none gives (x ∷ xs) none = ap (λ first. option_or first (first_given gives xs)) (none x) ∙ first_of-none gives xs none
 
 -- a filter before it
-pub first_of-filter : {X Y : Type 0} (gives : X → Option Y) (keeps : X → Bool) (xs : List X) → first_of gives (filter keeps xs) ≡ first_of (λ x. if keeps x then gives x else None) xs
+pub first_of-filter : {X Y : Type 0} (gives : X → Option Y) (keeps : X → Bool) (xs : List X) → first_given gives (filter keeps xs) ≡ first_given (λ x. if keeps x then gives x else None) xs
 first_of-filter gives keeps [] = refl
 first_of-filter gives keeps (x ∷ xs) =
     elim (cases_Bool (keeps x)) [
@@ -53,19 +53,19 @@ or_map : {Y Z : Type 0} (to : Y → Z) (first rest : Option Y) → option_or (op
 or_map to None rest = refl
 or_map to (Some y) rest = refl
 
-pub first_of-option_map : {X Y Z : Type 0} (gives : X → Option Y) (to : Y → Z) (xs : List X) → first_of (λ x. option_map to (gives x)) xs ≡ option_map to (first_of gives xs)
+pub first_of-option_map : {X Y Z : Type 0} (gives : X → Option Y) (to : Y → Z) (xs : List X) → first_given (λ x. option_map to (gives x)) xs ≡ option_map to (first_given gives xs)
 first_of-option_map gives to [] = refl
-first_of-option_map gives to (x ∷ xs) = ap (λ rest. option_or (option_map to (gives x)) rest) (first_of-option_map gives to xs) ∙ or_map to (gives x) (first_of gives xs)
+first_of-option_map gives to (x ∷ xs) = ap (λ rest. option_or (option_map to (gives x)) rest) (first_of-option_map gives to xs) ∙ or_map to (gives x) (first_given gives xs)
 
 -- the first comes from one of the list
 pub from_either : {Y : Type 0} (first rest : Option Y) (y : Y) → option_or first rest ≡ Some y → (first ≡ Some y) ⊎ (rest ≡ Some y)
 from_either None rest y same = inr same
 from_either (Some z) rest y same = inl same
 
-pub first_of-from : {X Y : Type 0} (P : X → Type 0) (gives : X → Option Y) (xs : List X) (y : Y) → All P xs → first_of gives xs ≡ Some y → (x : X) × P x × (gives x ≡ Some y)
+pub first_of-from : {X Y : Type 0} (P : X → Type 0) (gives : X → Option Y) (xs : List X) (y : Y) → All P xs → first_given gives xs ≡ Some y → (x : X) × P x × (gives x ≡ Some y)
 first_of-from P gives [] y all found = absurd (none-some y found)
 first_of-from P gives (x ∷ xs) y all found =
-    elim (from_either (gives x) (first_of gives xs) y found) [
+    elim (from_either (gives x) (first_given gives xs) y found) [
       | inl here ↦ (x, All-head P x xs all, here)
       | inr later ↦ first_of-from P gives xs y (All-tail P x xs all) later
     ]
@@ -75,10 +75,10 @@ none_both None rest none = (refl, none)
 none_both (Some y) rest none = absurd (none-some y (sym none))
 
 -- where one gives nothing and those behind it neither, nothing is found; and the other way round
-pub none_each : {X Y : Type 0} (gives : X → Option Y) (xs : List X) → first_of gives xs ≡ None → All (λ x. gives x ≡ None) xs
+pub none_each : {X Y : Type 0} (gives : X → Option Y) (xs : List X) → first_given gives xs ≡ None → All (λ x. gives x ≡ None) xs
 none_each gives [] none = All-nil (λ x. gives x ≡ None)
 none_each gives (x ∷ xs) none =
-    let both = none_both (gives x) (first_of gives xs) none in
+    let both = none_both (gives x) (first_given gives xs) none in
     All-cons (λ y. gives y ≡ None) x xs both.0 (none_each gives xs both.1)
 
 -- ---- numbers in ascending order

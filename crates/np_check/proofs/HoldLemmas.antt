@@ -6,7 +6,7 @@ use Rattle.std.proofs.lemmas.Bool.{and_parts, cases_Bool, cases_eq, leb-true, eq
 use Rattle.std.proofs.lemmas.List.Elements.{All-contains}
 use Rattle.std.proofs.lemmas.Option.{slice_get-map}
 use Rattle.np_addr.specs.Prelude.{family_of}
-use Rattle.np_check.specs.Prelude.{Address, At, Egress, EstateLists, Family, HasAddress, Holds, Ingress, PlaceEnd, PortSpot, Question, Wanted, Work, addresses_of, ascends_from, breaks, complies, counterexample_at, counterexample_between, counterexample_from, counterexample_in, counterexample_of, first_of, first_spot, number_of_address}
+use Rattle.np_check.specs.Prelude.{Address, At, Egress, EstateLists, Family, HasAddress, Holds, Ingress, PlaceEnd, PortSpot, Question, Wanted, Work, addresses_of, ascends_from, breaks, complies, counterexample_at, counterexample_between, counterexample_from, counterexample_in, counterexample_of, first_given, first_spot, number_of_address}
 use Rattle.np_classes.specs.Classes.{members}
 use Rattle.np_check.proofs.FirstLemmas.{first_of-one, none_both}
 use Rattle.np_check.proofs.NoneLemmas.{both_none, is_whole, no_address, no_addresses, no_spot, no_spots, none_all, none_at, none_map, not_broken}
@@ -15,7 +15,7 @@ use Rattle.np_check.proofs.SortedLemmas.{filtered}
 use Rattle.np_check.proofs.WholeLemmas.{of-question}
 use Rattle.np_conns.specs.Prelude.{Conns, has_spot, is_spot}
 use Rattle.np_model.specs.Prelude.{IsLawful, families_of}
-use Rattle.np_fold.specs.Prelude.{Workload, first_of as first_named, folding_of, members_of, named_first_pods, number_of, pods_alike, workload, workloads_of}
+use Rattle.np_fold.specs.Prelude.{Workload, first_of as first_named, folding_of, members_of, named_first_pods, pods_alike, workload, workload_number, workloads_of}
 use Rattle.np_names.specs.declared.named.Named.{Named}
 use Rattle.np_kinds.proofs.MemberLemmas.{destination-member, member-number, members-some, members-within, not-alone, own-member, source-member}
 use Rattle.np_kinds.proofs.PairLemmas.{between_pods-pair_allows, pair_allows-between, with_address-address_allows}
@@ -61,7 +61,7 @@ are_none lists question none =
     let gives = counterexample_between lists question.wanted question.conns in
     let all = none_both _ _ (sym (of-question lists question) ∙ none) in
     let from = λ (a : ℕ) (among : Contains question.source.works a).
-    none_both (first_of (λ (work : ℕ). gives (Work a) (Work work)) question.destination.works) (first_of (λ (address : Address). gives (Work a) (At address)) (addresses_of question.destination.block))
+    none_both (first_given (λ (work : ℕ). gives (Work a) (Work work)) question.destination.works) (first_given (λ (address : Address). gives (Work a) (At address)) (addresses_of question.destination.block))
     (sym (from-work lists question.wanted question.conns question.destination a) ∙ none_at
     (λ (source : ℕ). counterexample_from lists question.wanted question.conns question.destination (Work source)) question.source.works a all.0 among) in
     record {
@@ -69,7 +69,7 @@ are_none lists question none =
       egress = λ a address in_source has. no_address question.destination.block (λ (other : Address). gives (Work a) (At other)) address (from a in_source).1 has.0 has.1;
       ingress = λ address b has in_destination.
           none_at (λ (work : ℕ). gives (At address) (Work work)) question.destination.works b
-          (no_address question.source.block (λ (other : Address). first_of (λ (work : ℕ). gives (At other) (Work work)) question.destination.works) address all.1 has.0 has.1) in_destination;
+          (no_address question.source.block (λ (other : Address). first_given (λ (work : ℕ). gives (At other) (Work work)) question.destination.works) address all.1 has.0 has.1) in_destination;
     }
 
 pub holds : (lists : EstateLists) (question : Question) → IsLawful lists → counterexample_of lists question ≡ None → Holds lists question
@@ -78,20 +78,20 @@ holds lists question lawful none =
     let folding = folding_of lists in
     record {
       pods = λ p q family spot in_source in_destination differ listed speaks.
-          let a = number_of lists p in
-          let b = number_of lists q in
+          let a = workload_number lists p in
+          let b = workload_number lists q in
           let apart = not-alone folding a b p q (own-member lists p in_source.0) (own-member lists q in_destination.0) differ in
           let families = between-apart lists question.wanted question.conns a b (families_of lists.pods) apart refl ∙ are.works a b in_source.1 in_destination.1 in
           ap (complies question.wanted) (between_pods-pair_allows lists p q family spot lawful in_source.0 in_destination.0 differ)
           ∙ none_in lists question.wanted question.conns (Work a) (Work b) family (pair_allows lists folding a b family) spot
           (none_at (counterexample_in lists question.wanted question.conns (Work a) (Work b)) (families_of lists.pods) family families listed) speaks.0 speaks.1;
       to_addresses = λ p address spot in_source has speaks.
-          let a = number_of lists p in
+          let a = workload_number lists p in
           ap (complies question.wanted) (with_address-address_allows lists p Egress (family_of address) (number_of_address address) spot lawful in_source.0)
           ∙ none_in lists question.wanted question.conns (Work a) (At address) (family_of address) (address_allows lists folding a Egress (family_of address) (number_of_address address)) spot
           (sym (to_address lists question.wanted question.conns a address) ∙ are.egress a address in_source.1 has) speaks.0 speaks.1;
       from_addresses = λ address q spot has in_destination speaks.
-          let b = number_of lists q in
+          let b = workload_number lists q in
           ap (complies question.wanted) (with_address-address_allows lists q Ingress (family_of address) (number_of_address address) spot lawful in_destination.0)
           ∙ none_in lists question.wanted question.conns (At address) (Work b) (family_of address) (address_allows lists folding b Ingress (family_of address) (number_of_address address)) spot
           (sym (from_address lists question.wanted question.conns b address) ∙ are.ingress address b has in_destination.1) speaks.0 speaks.1;
@@ -129,7 +129,7 @@ stand_apart lists a b a_in b_in apart same =
     let near_in = members-within lists folding a (source_pod folding a) refl a_in near_has in
     let far_in = members-within lists folding b (destination_pod folding a b) refl b_in far_has in
     elim (cases_eq a b) [
-      | inr differ ↦ differ (sym (member-number lists a (source_pod folding a) near_in near_has) ∙ ap (number_of lists) same ∙ member-number lists b (destination_pod folding a b) far_in far_has)
+      | inr differ ↦ differ (sym (member-number lists a (source_pod folding a) near_in near_has) ∙ ap (workload_number lists) same ∙ member-number lists b (destination_pod folding a b) far_in far_has)
       | inl one ↦
           let eq : (a == b) ≡ true = eq-eqb a b one in
           let single : (length (members_of folding a) == 1) ≡ false = sym (ap (λ (first : Bool). first && length (members_of folding a) == 1) eq) ∙ apart in
@@ -188,6 +188,6 @@ found_none lists question lawful sources destinations is =
     (All-contains (IsWorkload lists) question.destination.works b destinations in_destination) in_source in_destination))
     (no_addresses question.destination.block (λ (address : Address). gives (Work a) (At address))
     (λ address is_one has. egress a address (All-contains (IsWorkload lists) question.source.works a sources in_source) in_source (is_one, has)))))
-    (no_addresses question.source.block (λ (address : Address). first_of (λ (work : ℕ). gives (At address) (Work work)) question.destination.works) (λ address is_one has.
+    (no_addresses question.source.block (λ (address : Address). first_given (λ (work : ℕ). gives (At address) (Work work)) question.destination.works) (λ address is_one has.
     none_all (λ (work : ℕ). gives (At address) (Work work)) question.destination.works
     (λ b in_destination. ingress address b (All-contains (IsWorkload lists) question.destination.works b destinations in_destination) (is_one, has) in_destination)))

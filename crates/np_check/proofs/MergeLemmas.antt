@@ -6,7 +6,7 @@ use Rattle.std.specs.Option.{option_or}
 use Rattle.std.proofs.lemmas.Bool.{cases_Bool, lt-ltb}
 use Rattle.std.proofs.lemmas.Option.{none-some, same_Some}
 use Rattle.np_addr.specs.Prelude.{AddressRanges, set_has}
-use Rattle.np_check.specs.Prelude.{Address, At, Counterexample, Four, PlaceEnd, Six, address_before, addresses_in, addresses_of, comes_before, earlier, first_of}
+use Rattle.np_check.specs.Prelude.{Address, At, Counterexample, Four, PlaceEnd, Six, address_before, addresses_of, comes_before, earlier, family_addresses, first_given}
 use Rattle.np_check.proofs.FirstLemmas.{from_either}
 use Rattle.np_check.proofs.SortedLemmas.{SortedBy, address_back, address_itself, sorted_append}
 
@@ -34,20 +34,20 @@ ascend_in set address low (suc count) ordered =
       | inr lacks ↦ rw lacks (ascend_in set address (low + 1) count ordered)
     ]
 
-ascend_family : (set : AddressRanges) (address : ℕ → Address) (count : ℕ) → ((m n : ℕ) → m < n → IsBefore (address m) (address n)) → SortedBy address_before (addresses_in set address count)
-unfolding addresses_in
+ascend_family : (set : AddressRanges) (address : ℕ → Address) (count : ℕ) → ((m n : ℕ) → m < n → IsBefore (address m) (address n)) → SortedBy address_before (family_addresses set address count)
+unfolding family_addresses
 ascend_family set address count ordered = ascend_in set address 0 count ordered
 
-all_family : (P : Address → Type 0) (set : AddressRanges) (address : ℕ → Address) (count : ℕ) → ((n : ℕ) → P (address n)) → AllByRecursion P (addresses_in set address count)
-unfolding addresses_in
+all_family : (P : Address → Type 0) (set : AddressRanges) (address : ℕ → Address) (count : ℕ) → ((n : ℕ) → P (address n)) → AllByRecursion P (family_addresses set address count)
+unfolding family_addresses
 all_family P set address count holds = all_in P set address 0 count (λ n above. holds n)
 
 pub addresses-ascend : (set : AddressRanges) → SortedBy address_before (addresses_of set)
 addresses-ascend set =
-    sorted_append address_before (addresses_in set Four (2 ^ 32)) (addresses_in set Six (2 ^ 128))
+    sorted_append address_before (family_addresses set Four (2 ^ 32)) (family_addresses set Six (2 ^ 128))
     (ascend_family set Four (2 ^ 32) (λ m n below. lt-ltb m n below))
     (ascend_family set Six (2 ^ 128) (λ m n below. lt-ltb m n below))
-    (all_family (λ x. AllByRecursion (IsBefore x) (addresses_in set Six (2 ^ 128))) set Four (2 ^ 32) (λ n. all_family (IsBefore (Four n)) set Six (2 ^ 128) (λ m. refl)))
+    (all_family (λ x. AllByRecursion (IsBefore x) (family_addresses set Six (2 ^ 128))) set Four (2 ^ 32) (λ n. all_family (IsBefore (Four n)) set Six (2 ^ 128) (λ m. refl)))
 
 -- ---- two firsts
 
@@ -56,10 +56,10 @@ abbrev pub IsFrom : (Address → Option Counterexample) → Type 0
 IsFrom gives = (address : Address) (counterexample : Counterexample) → gives address ≡ Some counterexample → counterexample.source ≡ At address
 
 from_behind : (gives : Address → Option Counterexample) (x : Address) (xs : List Address) (counterexample : Counterexample) → IsFrom gives → AllByRecursion (IsBefore x) xs →
-    first_of gives xs ≡ Some counterexample → (y : Address) × IsBefore x y × (counterexample.source ≡ At y)
+    first_given gives xs ≡ Some counterexample → (y : Address) × IsBefore x y × (counterexample.source ≡ At y)
 from_behind gives x [] counterexample from all found = absurd (none-some counterexample found)
 from_behind gives x (y ∷ ys) counterexample from all found =
-    elim (from_either (gives y) (first_of gives ys) counterexample found) [
+    elim (from_either (gives y) (first_given gives ys) counterexample found) [
       | inl here ↦ (y, all.0, from y counterexample here)
       | inr later ↦ from_behind gives x ys counterexample from all.1 later
     ]
@@ -80,24 +80,24 @@ take_second x counterexample (Some kept) source later =
     rw does refl
 
 merge_here : (gives gives' : Address → Option Counterexample) (x : Address) (xs : List Address) (one other : Option Counterexample) → IsFrom gives → IsFrom gives' → AllByRecursion (IsBefore x) xs →
-    gives x ≡ one → gives' x ≡ other → first_of (λ a. option_or (gives a) (gives' a)) xs ≡ earlier (first_of gives xs) (first_of gives' xs) →
-    option_or (option_or one other) (first_of (λ a. option_or (gives a) (gives' a)) xs) ≡ earlier (option_or one (first_of gives xs)) (option_or other (first_of gives' xs))
+    gives x ≡ one → gives' x ≡ other → first_given (λ a. option_or (gives a) (gives' a)) xs ≡ earlier (first_given gives xs) (first_given gives' xs) →
+    option_or (option_or one other) (first_given (λ a. option_or (gives a) (gives' a)) xs) ≡ earlier (option_or one (first_given gives xs)) (option_or other (first_given gives' xs))
 merge_here gives gives' x xs (Some counterexample) (Some found) from from' all is is' rest =
     sym (keep_first x counterexample (Some found) (from x counterexample is) (λ other same. ap (λ (c : Counterexample). comes_before c.source (At x)) (sym (same_Some found other same)) ∙ ap
     (λ (end : PlaceEnd). comes_before end (At x)) (from' x found is') ∙ address_itself x))
 merge_here gives gives' x xs (Some counterexample) None from from' all is is' rest =
-    sym (keep_first x counterexample (first_of gives' xs) (from x counterexample is) (λ found later.
+    sym (keep_first x counterexample (first_given gives' xs) (from x counterexample is) (λ found later.
     let (y, before, source) = from_behind gives' x xs found from' all later in
     ap (λ (end : PlaceEnd). comes_before end (At x)) source ∙ address_back x y before))
 merge_here gives gives' x xs None (Some counterexample) from from' all is is' rest =
-    sym (take_second x counterexample (first_of gives xs) (from' x counterexample is') (λ kept later.
+    sym (take_second x counterexample (first_given gives xs) (from' x counterexample is') (λ kept later.
     let (y, before, source) = from_behind gives x xs kept from all later in
     ap (λ (end : PlaceEnd). comes_before (At x) end) source ∙ before))
 merge_here gives gives' x xs None None from from' all is is' rest = rest
 
 -- the first by one or the other is the earlier of the first by the one and the first by the other
 pub merge : (gives gives' : Address → Option Counterexample) (xs : List Address) → IsFrom gives → IsFrom gives' → SortedBy address_before xs →
-    first_of (λ a. option_or (gives a) (gives' a)) xs ≡ earlier (first_of gives xs) (first_of gives' xs)
+    first_given (λ a. option_or (gives a) (gives' a)) xs ≡ earlier (first_given gives xs) (first_given gives' xs)
 merge gives gives' [] from from' ascends = refl
 merge gives gives' (x ∷ xs) from from' ascends =
     merge_here gives gives' x xs (gives x) (gives' x) from from' ascends.0 refl refl (merge gives gives' xs from from' ascends.1)

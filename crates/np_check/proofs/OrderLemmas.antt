@@ -7,7 +7,7 @@ use Rattle.std.proofs.lemmas.Bool.{true≢false}
 use Rattle.std.proofs.lemmas.List.Elements.{All-contains, All-from_recursion, Contains-append_cases, Contains-append_left, Contains-append_right, filter_passes}
 use Rattle.std.proofs.lemmas.Option.{none-some}
 use Rattle.np_addr.specs.Prelude.{AddressRanges, IsAddress, set_has}
-use Rattle.np_check.specs.Prelude.{Address, At, Ends, EstateLists, Family, Four, IsEndOf, PlaceEnd, Proto, Sctp, Six, Tcp, Udp, Work, address_before, addresses_in, addresses_of, comes_before, families_between, family_before, first_of, is_ascending, places_of, proto_before}
+use Rattle.np_check.specs.Prelude.{Address, At, Ends, EstateLists, Family, Four, IsEndOf, PlaceEnd, Proto, Sctp, Six, Tcp, Udp, Work, address_before, addresses_of, comes_before, families_between, family_addresses, family_before, first_given, is_ascending, places_of, proto_before}
 use Rattle.np_addr.specs.declared.address.Family.TheVariants as family
 use Rattle.np_addr.proofs.SameLists.{Contains-first}
 use Rattle.np_check.proofs.MemberLemmas.{first_or_later, from_filter, from_map, from_range, further_on, in_filter, in_map, in_range}
@@ -29,7 +29,7 @@ pub record IsFoundOf {X Y : Type 0} (before : X → X → Bool) (gives : X → O
   pub none : (x : X) → Contains xs x → before x item ≡ true → gives x ≡ None
 
 at_head : {X Y : Type 0} (before : X → X → Bool) (gives : X → Option Y) (x : X) (xs : List X) (y : Y) (own : Option Y) → IsStrict before → SortedBy before (x ∷ xs) → gives x ≡ own →
-    option_or own (first_of gives xs) ≡ Some y → (first_of gives xs ≡ Some y → IsFoundOf before gives xs y) → IsFoundOf before gives (x ∷ xs) y
+    option_or own (first_given gives xs) ≡ Some y → (first_given gives xs ≡ Some y → IsFoundOf before gives xs y) → IsFoundOf before gives (x ∷ xs) y
 at_head before gives x xs y (Some z) strict sorted is found rest = record {
   item = x;
   one = Contains-first x xs;
@@ -53,7 +53,7 @@ at_head before gives x xs y None strict sorted is found rest =
       ];
     }
 
-pub found_of : {X Y : Type 0} (before : X → X → Bool) (gives : X → Option Y) (xs : List X) (y : Y) → IsStrict before → SortedBy before xs → first_of gives xs ≡ Some y → IsFoundOf before gives xs y
+pub found_of : {X Y : Type 0} (before : X → X → Bool) (gives : X → Option Y) (xs : List X) (y : Y) → IsStrict before → SortedBy before xs → first_given gives xs ≡ Some y → IsFoundOf before gives xs y
 found_of before gives [] y strict sorted found = absurd (none-some y found)
 found_of before gives (x ∷ xs) y strict sorted found =
     at_head before gives x xs y (gives x) strict sorted refl found (λ later. found_of before gives xs y strict sorted.1 later)
@@ -89,25 +89,25 @@ between_sorted lists (At address) (At other) = tt
 
 -- ---- the ends of a side
 
-in_family : (set : AddressRanges) (address : ℕ → Address) (count n : ℕ) → n < count → set_has set (address n) ≡ true → Contains (addresses_in set address count) (address n)
-unfolding addresses_in
+in_family : (set : AddressRanges) (address : ℕ → Address) (count n : ℕ) → n < count → set_has set (address n) ≡ true → Contains (family_addresses set address count) (address n)
+unfolding family_addresses
 in_family set address count n below has =
     in_filter (set_has set) (map address (range_with_len 0 count)) (address n) (in_map address (range_with_len 0 count) n (in_range 0 count n (omega arith) (omega arith))) has
 
-family_in : (set : AddressRanges) (address : ℕ → Address) (count : ℕ) (a : Address) → Contains (addresses_in set address count) a → (n : ℕ) × (n < count) × (a ≡ address n) × (set_has set a ≡ true)
-unfolding addresses_in
+family_in : (set : AddressRanges) (address : ℕ → Address) (count : ℕ) (a : Address) → Contains (family_addresses set address count) a → (n : ℕ) × (n < count) × (a ≡ address n) × (set_has set a ≡ true)
+unfolding family_addresses
 family_in set address count a is =
     let all = map address (range_with_len 0 count) in
     let (n, of, one) = from_map address (range_with_len 0 count) a (from_filter (set_has set) all a is) in
     (n, from_range count n one, of, All-contains (λ (b : Address). set_has set b ≡ true) (filter (set_has set) all) a (filter_passes (set_has set) all) is)
 
 in_addresses : (set : AddressRanges) (a : Address) → IsAddress a → set_has set a ≡ true → Contains (addresses_of set) a
-in_addresses set (Four n) is has = Contains-append_left (addresses_in set Four (2 ^ 32)) (addresses_in set Six (2 ^ 128)) (Four n) (in_family set Four (2 ^ 32) n is has)
-in_addresses set (Six n) is has = Contains-append_right (addresses_in set Four (2 ^ 32)) (addresses_in set Six (2 ^ 128)) (Six n) (in_family set Six (2 ^ 128) n is has)
+in_addresses set (Four n) is has = Contains-append_left (family_addresses set Four (2 ^ 32)) (family_addresses set Six (2 ^ 128)) (Four n) (in_family set Four (2 ^ 32) n is has)
+in_addresses set (Six n) is has = Contains-append_right (family_addresses set Four (2 ^ 32)) (family_addresses set Six (2 ^ 128)) (Six n) (in_family set Six (2 ^ 128) n is has)
 
 addresses_are : (set : AddressRanges) (a : Address) → Contains (addresses_of set) a → IsAddress a × (set_has set a ≡ true)
 addresses_are set a is =
-    elim (Contains-append_cases (addresses_in set Four (2 ^ 32)) (addresses_in set Six (2 ^ 128)) a is) [
+    elim (Contains-append_cases (family_addresses set Four (2 ^ 32)) (family_addresses set Six (2 ^ 128)) a is) [
       | inl here ↦ let (n, below, of, has) = family_in set Four (2 ^ 32) a here in (subst IsAddress (sym of) below, has)
       | inr there ↦ let (n, below, of, has) = family_in set Six (2 ^ 128) a there in (subst IsAddress (sym of) below, has)
     ]

@@ -4,7 +4,7 @@ use Rattle.std.specs.Option.{option_or}
 use Rattle.std.proofs.Math.Seq.{drop-cons}
 use Rattle.std.proofs.lemmas.List.{drop_all}
 use Rattle.std.proofs.lemmas.Bool.{and_parts, cases_Bool, eqb-true, ne_eqb}
-use Rattle.np_check.specs.Prelude.{Allow, AreSettled, At, Deny, Ends, EstateLists, Family, PortSpot, Wanted, Work, addresses_of, breaks, complies, counterexample_at, counterexample_between, counterexample_from, counterexample_in, families_between, first_of, first_spot, has_pair, is_deny, kind_of}
+use Rattle.np_check.specs.Prelude.{Allow, AreSettled, At, Deny, Ends, EstateLists, Family, PortSpot, Wanted, Work, addresses_of, breaks, complies, counterexample_at, counterexample_between, counterexample_from, counterexample_in, families_between, first_given, first_spot, has_pair, is_deny, kind_of}
 use Rattle.np_check.proofs.FirstLemmas.{first_of-append, first_of-map, first_of-none}
 use Rattle.np_check.proofs.NoneLemmas.{no_spots, none_all, none_at, none_map}
 use Rattle.np_check.proofs.SpotLemmas.{breaks-same}
@@ -27,14 +27,14 @@ none_or None rest none = refl
 none_or (Some y) rest none = cc
 
 -- what is found at an index is the first, where nothing before it gives anything
-pub found_at : {X Y : Type 0} (gives : X → Option Y) (xs : List X) (i : ℕ) (d : X) (found : Option Y) → i < length xs → first_of gives (drop i xs) ≡ first_of gives xs → found ≡ gives (get_or xs i d) →
-    is_some found ≡ true → found ≡ first_of gives xs
+pub found_at : {X Y : Type 0} (gives : X → Option Y) (xs : List X) (i : ℕ) (d : X) (found : Option Y) → i < length xs → first_given gives (drop i xs) ≡ first_given gives xs → found ≡ gives (get_or xs i d) →
+    is_some found ≡ true → found ≡ first_given gives xs
 found_at gives xs i d found within left is some =
-    is ∙ some_or (gives (get_or xs i d)) (first_of gives (drop (suc i) xs)) (ap is_some (sym is) ∙ some) ∙ ap (first_of gives) (sym (drop-cons xs i d within)) ∙ left
+    is ∙ some_or (gives (get_or xs i d)) (first_given gives (drop (suc i) xs)) (ap is_some (sym is) ∙ some) ∙ ap (first_given gives) (sym (drop-cons xs i d within)) ∙ left
 
 -- where nothing is left, nothing is found
-pub none_left : {X Y : Type 0} (gives : X → Option Y) (xs : List X) (i : ℕ) → length xs ≤ i → first_of gives (drop i xs) ≡ first_of gives xs → None ≡ first_of gives xs
-none_left gives xs i past left = sym (ap (first_of gives) (drop_all i xs past)) ∙ left
+pub none_left : {X Y : Type 0} (gives : X → Option Y) (xs : List X) (i : ℕ) → length xs ≤ i → first_given gives (drop i xs) ≡ first_given gives xs → None ≡ first_given gives xs
+none_left gives xs i past left = sym (ap (first_given gives) (drop_all i xs past)) ∙ left
 
 -- what is no counterexample is none
 pub none_of_is : {Y : Type 0} (found wanted : Option Y) (none : Bool) → is_some found ≡ not none → none ≡ true → found ≡ wanted → wanted ≡ None
@@ -63,7 +63,7 @@ unfolding counterexample_between
 between-alone lists wanted conns a b alone = rw alone refl
 
 pub between-apart : (lists : EstateLists) (wanted : Wanted) (conns : Conns) (a b : ℕ) (families : List Family) → is_alone (folding_of lists) a b ≡ false → families ≡ families_of lists.pods →
-    first_of (counterexample_in lists wanted conns (Work a) (Work b)) families ≡ counterexample_between lists wanted conns (Work a) (Work b)
+    first_given (counterexample_in lists wanted conns (Work a) (Work b)) families ≡ counterexample_between lists wanted conns (Work a) (Work b)
 unfolding counterexample_between
 between-apart lists wanted conns a b families apart are = rw (apart, are) refl
 
@@ -80,7 +80,7 @@ none_in-kinds lists wanted conns a b a' b' family same none =
 
 none_all-kinds : (lists : EstateLists) (wanted : Wanted) (conns : Conns) (a b a' b' : ℕ) (families : List Family) →
     ((family : Family) (spot : PortSpot) → pair_allows lists (folding_of lists) a b family spot ≡ pair_allows lists (folding_of lists) a' b' family spot) →
-    first_of (counterexample_in lists wanted conns (Work a) (Work b)) families ≡ None → first_of (counterexample_in lists wanted conns (Work a') (Work b')) families ≡ None
+    first_given (counterexample_in lists wanted conns (Work a) (Work b)) families ≡ None → first_given (counterexample_in lists wanted conns (Work a') (Work b')) families ≡ None
 none_all-kinds lists wanted conns a b a' b' families same none =
     none_all (counterexample_in lists wanted conns (Work a') (Work b')) families
     (λ family has. none_in-kinds lists wanted conns a b a' b' family (same family) (none_at (counterexample_in lists wanted conns (Work a) (Work b)) families family none has))
@@ -118,14 +118,14 @@ settled-more lists wanted conns pairs more a b lawful a_in b_in differ none has 
 -- ---- from a workload
 
 pub from-work : (lists : EstateLists) (wanted : Wanted) (conns : Conns) (ends : Ends) (source : ℕ) →
-    counterexample_from lists wanted conns ends (Work source) ≡ option_or (first_of (λ destination. counterexample_between lists wanted conns (Work source) (Work destination)) ends.works)
-    (first_of (λ address. counterexample_between lists wanted conns (Work source) (At address)) (addresses_of ends.block))
+    counterexample_from lists wanted conns ends (Work source) ≡ option_or (first_given (λ destination. counterexample_between lists wanted conns (Work source) (Work destination)) ends.works)
+    (first_given (λ address. counterexample_between lists wanted conns (Work source) (At address)) (addresses_of ends.block))
 unfolding counterexample_from
 from-work lists wanted conns ends source =
     first_of-append (counterexample_between lists wanted conns (Work source)) (map Work ends.works) (map At (addresses_of ends.block))
-    ∙ ap (λ first. option_or first (first_of (counterexample_between lists wanted conns (Work source)) (map At (addresses_of ends.block))))
+    ∙ ap (λ first. option_or first (first_given (counterexample_between lists wanted conns (Work source)) (map At (addresses_of ends.block))))
     (first_of-map (counterexample_between lists wanted conns (Work source)) Work ends.works)
-    ∙ ap (λ rest. option_or (first_of (λ destination. counterexample_between lists wanted conns (Work source) (Work destination)) ends.works) rest)
+    ∙ ap (λ rest. option_or (first_given (λ destination. counterexample_between lists wanted conns (Work source) (Work destination)) ends.works) rest)
     (first_of-map (counterexample_between lists wanted conns (Work source)) At (addresses_of ends.block))
 
 -- ---- workloads between which nothing passes

@@ -3,7 +3,7 @@ use Rattle.std.specs.Prelude.{ℕ, ◌^◌, List, [], ◌∷◌, ◌++◌, Bool,
 use Rattle.std.specs.List.{range_with_len}
 use Rattle.np_addr.specs.Prelude.{AddressRanges, family_of, set_has}
 use Rattle.np_check.specs.Types.{Address, Allow, At, Counterexample, Deny, Egress, Ends, EstateLists, Family, Four, Ingress, PlaceEnd, PortSpot, Question, Six, Wanted, Work}
-use Rattle.np_check.specs.Firsts.{first_of, first_spot}
+use Rattle.np_check.specs.Firsts.{first_given, first_spot}
 use Rattle.np_conns.specs.Prelude.{Conns, has_spot}
 use Rattle.np_model.specs.Prelude.{families_of}
 use Rattle.np_fold.specs.Prelude.{folding_of}
@@ -12,12 +12,12 @@ use Rattle.np_kinds.specs.Prelude.{address_allows, is_alone, pair_allows}
 -- ---- ends
 
 -- the addresses of a family in a set, by their numbers, of which there are so many
-unfoldable pub addresses_in : AddressRanges → (ℕ → Address) → ℕ → List Address
-addresses_in set address count = filter (set_has set) (map address (range_with_len 0 count))
+unfoldable pub family_addresses : AddressRanges → (ℕ → Address) → ℕ → List Address
+family_addresses set address count = filter (set_has set) (map address (range_with_len 0 count))
 
 -- the addresses of a set: IPv4 before IPv6
 abbrev pub addresses_of : AddressRanges → List Address
-addresses_of set = addresses_in set Four (2 ^ 32) ++ addresses_in set Six (2 ^ 128)
+addresses_of set = family_addresses set Four (2 ^ 32) ++ family_addresses set Six (2 ^ 128)
 
 -- the ends of a side in their order: workloads before addresses
 abbrev pub places_of : Ends → List PlaceEnd
@@ -67,13 +67,13 @@ counterexample_in lists wanted conns source destination family =
 -- between two ends, by family: IPv4 before IPv6
 unfoldable pub counterexample_between : EstateLists → Wanted → Conns → PlaceEnd → PlaceEnd → Option Counterexample
 counterexample_between lists wanted conns source destination =
-    first_of (counterexample_in lists wanted conns source destination) (families_between lists source destination)
+    first_given (counterexample_in lists wanted conns source destination) (families_between lists source destination)
 
 -- from an end, by destination
 unfoldable pub counterexample_from : EstateLists → Wanted → Conns → Ends → PlaceEnd → Option Counterexample
-counterexample_from lists wanted conns destinations source = first_of (counterexample_between lists wanted conns source) (places_of destinations)
+counterexample_from lists wanted conns destinations source = first_given (counterexample_between lists wanted conns source) (places_of destinations)
 
 -- of all, by source
 unfoldable pub counterexample_of : EstateLists → Question → Option Counterexample
 counterexample_of lists question =
-    first_of (counterexample_from lists question.wanted question.conns question.destination) (places_of question.source)
+    first_given (counterexample_from lists question.wanted question.conns question.destination) (places_of question.source)

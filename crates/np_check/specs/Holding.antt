@@ -5,13 +5,13 @@ use Rattle.np_check.specs.Types.{Address, Egress, Ends, EstateLists, Family, Ing
 use Rattle.np_check.specs.Counterexamples.{complies, number_of_address}
 use Rattle.np_conns.specs.Prelude.{has_spot, is_spot}
 use Rattle.np_model.specs.Prelude.{families_of}
-use Rattle.np_fold.specs.Prelude.{number_of}
+use Rattle.np_fold.specs.Prelude.{workload_number}
 use Rattle.np_rules.specs.Prelude.{pod, pod_at}
 use Rattle.np_kinds.specs.Prelude.{between_pods, with_address}
 
 -- the pod at a place is one of the workloads of a side
 abbrev pub IsOf : EstateLists → ℕ → Ends → Type 0
-IsOf lists p ends = (p < length lists.pods) × Contains ends.works (number_of lists p)
+IsOf lists p ends = (p < length lists.pods) × Contains ends.works (workload_number lists p)
 
 -- the address is one of a side
 abbrev pub HasAddress : Ends → Address → Type 0

@@ -1,8 +1,8 @@
 -- The definitions and types of this crate that its proofs and the crates above speak of, one import line a file.
 pub use Rattle.np_check.specs.Counterexamples.{addresses_of, allows_between, breaks, complies, counterexample_at, counterexample_in, families_between, number_of_address, places_of}
-unfoldable pub use Rattle.np_check.specs.Counterexamples.{addresses_in, counterexample_between, counterexample_from, counterexample_of}
+unfoldable pub use Rattle.np_check.specs.Counterexamples.{counterexample_between, counterexample_from, counterexample_of, family_addresses}
 pub use Rattle.np_check.specs.FirstPacket.{IsBroken, IsEndOf, IsFirstBroken}
-pub use Rattle.np_check.specs.Firsts.{first_of, first_of_proto}
+pub use Rattle.np_check.specs.Firsts.{first_given, first_of_proto}
 unfoldable pub use Rattle.np_check.specs.Firsts.{first_of_ports, first_spot}
 pub use Rattle.np_check.specs.Holding.{HasAddress, Holds, IsOf, SpeaksOf}
 pub use Rattle.np_check.specs.Numbers.{HasNoAddress, IsOneSided, ascends_from, is_ascending}

@@ -4,7 +4,7 @@ ghost use Rattle.np_addr.specs.Prelude.{IsAddressSet, family_of};
 ghost use Rattle.np_addr.specs.declared.address.Family.{Family};
 ghost use Rattle.np_base.specs.Ranges.{holds, IsAscending};
 ghost use Rattle.np_check.specs.Counterexamples.{addresses_of, counterexample_between};
-ghost use Rattle.np_check.specs.Firsts.{first_of};
+ghost use Rattle.np_check.specs.Firsts.{first_given};
 ghost use Rattle.np_check.specs.steps.Broken as spec;
 ghost use Rattle.np_check.specs.declared.counterexample.PlaceEnd.TheVariants.{At, Work};
 ghost use Rattle.np_conns.specs.declared.port_spot.PortSpot.{PortSpot};
@@ -29,7 +29,7 @@ pub(crate) fn first_to_addresses(
     block: &AddrSet,
 ) -> Result<Option<Counterexample>, NoMemory>
     requires { IsWorkload checker.old source }
-    ensures counterexample { IfOk result (λ made. made ≡ first_of
+    ensures counterexample { IfOk result (λ made. made ≡ first_given
         (λ address. counterexample_between checker.old asked.now.wanted asked.now.conns.now (Work source) (At address))
         (addresses_of block.now)) }
     ensures same { checker.new ≡ checker.old }
@@ -58,8 +58,8 @@ pub(crate) fn first_from_addresses(
     destinations: &[u32],
 ) -> Result<Option<Counterexample>, NoMemory>
     requires { All (IsWorkload checker.old) destinations.now }
-    ensures counterexample { IfOk result (λ made. made ≡ first_of
-        (λ address. first_of
+    ensures counterexample { IfOk result (λ made. made ≡ first_given
+        (λ address. first_given
         (λ destination. counterexample_between checker.old asked.now.wanted asked.now.conns.now (At address) (Work destination))
         destinations.now) (addresses_of block.now)) }
     ensures same { checker.new ≡ checker.old }
@@ -84,7 +84,7 @@ fn first_from(
 ) -> Result<Option<Counterexample>, NoMemory>
     requires destination { IsWorkload checker.old destination }
     requires block { IsAddressSet block.now }
-    ensures counterexample { IfOk result (λ made. made ≡ first_of
+    ensures counterexample { IfOk result (λ made. made ≡ first_given
         (λ address. counterexample_between checker.old asked.now.wanted asked.now.conns.now (At address) (Work destination))
         (addresses_of block.now)) }
     ensures same { checker.new ≡ checker.old }

@@ -1,6 +1,6 @@
 //! Packets from workloads.
 ghost use Rattle.std.specs.Prelude.{◌≡◌, All, IfOk};
-ghost use Rattle.np_check.specs.Prelude.{AreSettled, counterexample_from, first_of};
+ghost use Rattle.np_check.specs.Prelude.{AreSettled, counterexample_from, first_given};
 ghost use Rattle.np_check.specs.declared.counterexample.PlaceEnd.TheVariants.{Work};
 ghost use Rattle.np_kinds.specs.Prelude.{IsWorkload};
 
@@ -22,7 +22,7 @@ pub(crate) fn first_from_works(
 ) -> Result<Option<Counterexample>, NoMemory>
     requires sources { All (IsWorkload checker.old) sources.now }
     requires destinations { All (IsWorkload checker.old) ends.now.works }
-    ensures counterexample { IfOk result (λ made. made ≡ first_of
+    ensures counterexample { IfOk result (λ made. made ≡ first_given
         (λ source. counterexample_from checker.old asked.now.wanted asked.now.conns.now ends.now (Work source)) sources.now) }
     ensures same { checker.new ≡ checker.old }
 {

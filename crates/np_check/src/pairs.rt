@@ -1,6 +1,6 @@
 //! Packets between workloads.
 ghost use Rattle.std.specs.Prelude.{◌≡◌, ◌<◌, false, All, IfOk, length};
-ghost use Rattle.np_check.specs.Prelude.{AreSettled, counterexample_between, counterexample_in, first_of};
+ghost use Rattle.np_check.specs.Prelude.{AreSettled, counterexample_between, counterexample_in, first_given};
 ghost use Rattle.np_check.specs.declared.counterexample.PlaceEnd.TheVariants.{Work};
 ghost use Rattle.np_fold.specs.Prelude.{folding_of};
 ghost use Rattle.np_kinds.specs.Prelude.{IsWorkload, is_alone};
@@ -29,7 +29,7 @@ pub(crate) fn first_to_works(
     requires source { IsWorkload checker.old source }
     requires destinations { All (IsWorkload checker.old) destinations.now }
     requires settled { AreSettled checker.old asked.now.wanted asked.now.conns.now settled.old.keys }
-    ensures counterexample { IfOk result (λ made. made ≡ first_of
+    ensures counterexample { IfOk result (λ made. made ≡ first_given
         (λ destination. counterexample_between checker.old asked.now.wanted asked.now.conns.now (Work source) (Work destination))
         destinations.now) }
     ensures same { checker.new ≡ checker.old }

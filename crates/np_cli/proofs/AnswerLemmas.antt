@@ -4,7 +4,7 @@ use Rattle.std.proofs.lemmas.Bool.{false≢true}
 use Rattle.std.proofs.lemmas.Option.{same_Some}
 use Rattle.np_io.specs.Prelude.{Rose, bytes_of}
 use Rattle.np_io.specs.declared.held.Held.{Held}
-use Rattle.np_cli.specs.Prelude.{Bytes, CannotRead, CannotWrite, Cause, Ending, Failure, Fault, HaveFault, Job, KnowsBytes, NoMemory, Promises, Refused, Run, Says, SaysOfTexts, Status, TooLarge, Usage, answer_to, holding, message, outcome_on, output, refusal, status_of, text_of}
+use Rattle.np_cli.specs.Prelude.{Bytes, CannotRead, CannotWrite, Cause, Ending, Failure, Fault, HaveFault, Job, KnowsBytes, NoMemory, Promises, Refused, Run, Says, SaysOfTexts, Status, TooLarge, Usage, answer_to, holding, message, outcome_on, output, printed_text, refusal, status_of}
 use Rattle.np_cli.specs.declared.in_memory.Answered.{Answered}
 use Rattle.np_cli.proofs.OutcomesLemmas.{Leaves-caused, fault-text}
 use Rattle.np_cli.proofs.PromisesLemmas.{one_job}
@@ -36,7 +36,7 @@ outcome-is run (Err CannotWrite) texts cause tells reads writes other = absurd (
 outcome-is run (Err NoMemory) texts cause tells reads writes other = absurd (other refl)
 
 refused-output : (asked : Option Job) (job : Job) (fault : Fault) (texts : List (List ℕ)) → asked ≡ Some job → is_too_large texts ≡ false → refusal job texts ≡ Some fault → output asked texts ≡ []
-unfolding output text_of refusal
+unfolding output printed_text refusal
 refused-output asked job fault texts is fits found = rw (is, fits) (fault-text _ fault found)
 
 large-output : (asked : Option Job) (texts : List (List ℕ)) → is_too_large texts ≡ true → output asked texts ≡ []

@@ -2,7 +2,7 @@
 use Rattle.std.proofs.Common.{◌≡◌, ℕ, ◌≤◌, List, Option, None, Some, arith, subst}
 use Rattle.np_cli.specs.Prelude.{Counted, Job, RoseAtMost, most_steps, ran, steps_in}
 use Rattle.np_command.specs.Prelude.{SinkTrace}
-use Rattle.np_frame.specs.Prelude.{AreTold, SourceTrace, names_of, objects_of}
+use Rattle.np_frame.specs.Prelude.{AreTold, SourceTrace, input_names, objects_of}
 
 -- no rule was looked at
 RoseAtMost-still : (most : Option ℕ) (steps : ℕ) → RoseAtMost most steps steps
@@ -14,7 +14,7 @@ Counted-none asked source out steps = record { least = omega arith; most = λ jo
 
 -- the bytes that were read are those that the source told
 pub Counted-read : (job : Job) (source : SourceTrace) (out : SinkTrace) (texts : List (List ℕ)) (before after : ℕ) →
-    ((told : List (List ℕ)) → AreTold source.holds source.left (names_of job) told → texts ≡ told) → before ≤ after → RoseAtMost (steps_in job (objects_of job texts)) before after →
+    ((told : List (List ℕ)) → AreTold source.holds source.left (input_names job) told → texts ≡ told) → before ≤ after → RoseAtMost (steps_in job (objects_of job texts)) before after →
     Counted (ran (Some job) source out) before after
 unfolding most_steps
 Counted-read job source out texts before after read least most = record {

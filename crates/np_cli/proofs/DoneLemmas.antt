@@ -3,7 +3,7 @@ use Rattle.std.proofs.Common.{◌≡◌, ℕ, List, Option, None, Some, Result, 
 use Rattle.np_cli.proofs.PromisesLemmas.{one_job}
 use Rattle.np_cli.proofs.RunsLemmas.{output-fits}
 use Rattle.np_frame.specs.Prelude.{objects_of}
-use Rattle.np_cli.specs.Prelude.{CannotRead, CannotWrite, Cause, Done, Ending, EstateLists, Failure, Fault, IsLawfulIn, Job, KnowsBytes, NoMemory, Refused, ReportNotes, Run, Status, TooLarge, Usage, Violated, ending, ending_in, ending_of, output, refusal, reply, reply_in, status_of, text_of}
+use Rattle.np_cli.specs.Prelude.{CannotRead, CannotWrite, Cause, Done, Ending, EstateLists, Failure, Fault, IsLawfulIn, Job, KnowsBytes, NoMemory, Refused, ReportNotes, Run, Status, TooLarge, Usage, Violated, ending, ending_in, ending_of, output, printed_text, refusal, reply, reply_in, status_of}
 use Rattle.np_command.specs.Prelude.{SinkTrace, TookWhole, fault_in, text_in}
 use Rattle.np_command.specs.declared.status.Status.TheVariants as status
 use Rattle.np_model.specs.Prelude.{IsLawful}
@@ -25,7 +25,7 @@ written-read out job texts ends (Ok lists) read lawful no_fault took ended =
 
 -- a run whose report was written whole wrote the reply of its job
 pub written-told : (run : Run) (ends : Ending) (job : Job) (texts : List (List ℕ)) → Cause run (Ok ends) → run.asked ≡ Some job → KnowsBytes run texts → IsWritten run.out job texts ends
-unfolding refusal text_of ending_of
+unfolding refusal printed_text ending_of
 written-told run ends job texts cause is told =
     let same : cause.job ≡ job = one_job run.asked job cause.job is cause.asked in
     let reported = cause.told texts told in
@@ -33,7 +33,7 @@ written-told run ends job texts cause is told =
     let lawful : IsLawfulIn (objects_of job texts) = subst (λ (j : Job). IsLawfulIn (objects_of j texts)) same reported.lawful in
     let ended : ends ≡ ending_of job texts = subst (λ (j : Job). ends ≡ ending_of j texts) same reported.ended in
     let fits = reported.accepted.fits in
-    let took : TookWhole run.out (text_of job texts) =
+    let took : TookWhole run.out (printed_text job texts) =
     subst (TookWhole run.out) (ap (λ (asked : Option Job). output asked texts) is ∙ output-fits job texts fits) reported.took in
     written-read run.out job texts ends (objects_of job texts) refl lawful none took ended
 

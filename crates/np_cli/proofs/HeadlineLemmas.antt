@@ -1,6 +1,6 @@
 -- What reports say, from what was written of them. For `np_main`.
 use Rattle.std.proofs.Common.{◌≡◌, ℕ, List, Bool, true, false, Option, Some, None, Result, Ok, Err, refl, sym, subst, ◌∙◌}
-use Rattle.np_cli.specs.Prelude.{CannotRead, CannotWrite, Cause, Check, Done, Ending, EstateLists, Evaluate, Explain, Exposure, Failure, Fault, Flatten, Job, List as ListJob, NoMemory, Refused, RefusesFor, ReportNotes, Run, Sample, Says, SaysOfInputs, Status, TooLarge, Unused, Usage, Violated, ending, ending_status, ends_so, holds, reply, report_notes, status_of}
+use Rattle.np_cli.specs.Prelude.{CannotRead, CannotWrite, Cause, Check, Done, Ending, EstateLists, Evaluate, Explain, Exposure, Failure, Fault, Flatten, Job, List as ListJob, NoMemory, Refused, RefusesFor, ReportNotes, Run, Sample, Says, SaysOfInputs, Status, TooLarge, Unused, Usage, Violated, check_holds, ending, ending_status, ends_so, reply, report_notes, status_of}
 use Rattle.np_cli.proofs.DoneLemmas.{written-told}
 use Rattle.np_frame.specs.Prelude.{objects_of}
 use Rattle.np_command.specs.Prelude.{SinkTrace, TookWhole, failure_status, fault_in, text_in}
@@ -19,7 +19,7 @@ use Rattle.np_model.specs.Prelude.{IsLawful}
 -- a whole report of accepted inputs says what its job is to say
 pub says-of : (out : SinkTrace) (job : Job) (texts : List (List ℕ)) (lists : EstateLists) → objects_of job texts ≡ Ok lists → IsLawful lists
     → fault_in (reply job texts lists) ≡ None → TookWhole out (text_in (reply job texts lists)) → Says job (ending job texts lists) texts out
-unfolding reply holds
+unfolding reply check_holds
 says-of out (ListJob format report controller focus side files) texts lists read lawful none took =
     list_promised out format report controller focus side texts lists read lawful none took
 says-of out (Explain from to files) texts lists read lawful none took = explain_promised out from to texts lists read lawful none took

@@ -4,7 +4,7 @@ use Rattle.std.specs.Io.KnownBytes.{append_known}
 use Rattle.std.specs.Prelude.{◌⊎◌}
 use Rattle.np_io.specs.Prelude.{TookFront, TookLess}
 use Rattle.np_io.proofs.TakenLemmas.{append_known-nil}
-use Rattle.np_cli.specs.Prelude.{CannotRead, CannotWrite, Cause, Check, Done, Ending, EstateLists, Evaluate, Explain, Exposure, Failure, Fault, Flatten, HaveFault, IsReportOn, Job, Leaves, List as ListJob, NoMemory, NotesLeftOut, Refused, RefusesFor, Run, Sample, TooLarge, Unused, Usage, Violated, ending, ending_in, ending_of, ends_so, holds, output, refusal, reply, reply_in, report_notes, taking, text_of}
+use Rattle.np_cli.specs.Prelude.{CannotRead, CannotWrite, Cause, Check, Done, Ending, EstateLists, Evaluate, Explain, Exposure, Failure, Fault, Flatten, HaveFault, IsReportOn, Job, Leaves, List as ListJob, NoMemory, NotesLeftOut, Refused, RefusesFor, Run, Sample, TooLarge, Unused, Usage, Violated, check_holds, ending, ending_in, ending_of, ends_so, output, printed_text, refusal, reply, reply_in, report_notes, taking}
 use Rattle.np_cli.proofs.HeadlineLemmas.{refuses-for, says-of}
 use Rattle.np_cli.proofs.RunsLemmas.{output-fits}
 use Rattle.np_frame.specs.Prelude.{inputs_of, is_too_large, object_texts, objects_of}
@@ -59,7 +59,7 @@ report-read job texts out (Ok lists) fits read none =
 
 -- what may be written of accepted inputs is a report on them
 report-on : (job : Job) (texts : List (List ℕ)) (out : SinkTrace) → is_too_large texts ≡ false → refusal job texts ≡ None → IsReportOn job texts out (output (Some job) texts)
-unfolding refusal text_of
+unfolding refusal printed_text
 report-on job texts out fits none =
     subst (IsReportOn job texts out) (sym (output-fits job texts fits)) (report-read job texts out (objects_of job texts) fits refl none)
 
@@ -86,7 +86,7 @@ fault-text (Ok text) fault is = cc
 fault-text (Err other) fault is = refl
 
 faulty-text : (job : Job) (texts : List (List ℕ)) (fault : Fault) → is_too_large texts ≡ false → refusal job texts ≡ Some fault → output (Some job) texts ≡ []
-unfolding refusal text_of
+unfolding refusal printed_text
 faulty-text job texts fault fits found = output-fits job texts fits ∙ fault-text (reply_in job texts (objects_of job texts)) fault found
 
 large-text : (job : Job) (texts : List (List ℕ)) → is_too_large texts ≡ true → output (Some job) texts ≡ []
@@ -142,7 +142,7 @@ notes-ended job lists false = none-violated job lists
 notes-read : (job : Job) (texts : List (List ℕ)) (lists : EstateLists) (ends : Ending) → ends ≡ ending_of job texts → objects_of job texts ≡ Ok lists → NotesLeftOut job lists ends
 unfolding ending_of
 notes-read job texts lists ends ended read =
-    subst (NotesLeftOut job lists) (sym (ended ∙ ap (ending_in job texts) read)) (notes-ended job lists (holds job texts lists))
+    subst (NotesLeftOut job lists) (sym (ended ∙ ap (ending_in job texts) read)) (notes-ended job lists (check_holds job texts lists))
 
 noted-sample : (n : ℕ) (lists : EstateLists) (ends : Ending) → NotesLeftOut (Sample n) lists ends
 noted-sample n lists (Done notes) = tt

@@ -4,9 +4,9 @@ use Rattle.std.specs.Prelude.{◌⊎◌, IsErrAnd}
 use Rattle.std.proofs.lemmas.Bool.{le-ltb}
 use Rattle.np_io.specs.Prelude.{TookFront, TookLess}
 use Rattle.np_frame.proofs.SourcesLemmas.{BeganNext-none}
-use Rattle.np_cli.specs.Prelude.{Answers, AskedNothing, CannotRead, CannotWrite, Cause, Ending, Failure, Fault, IsAccepted, IsReported, Job, NoMemory, Refused, Run, TooLarge, Usage, ending_of, output, ran, refusal, reply_in, text_of}
+use Rattle.np_cli.specs.Prelude.{Answers, AskedNothing, CannotRead, CannotWrite, Cause, Ending, Failure, Fault, IsAccepted, IsReported, Job, NoMemory, Refused, Run, TooLarge, Usage, ending_of, output, printed_text, ran, refusal, reply_in}
 use Rattle.np_command.specs.Prelude.{IsKept, SinkTrace, TookWhole, fault_in, text_in, words_failure}
-use Rattle.np_frame.specs.Prelude.{AreTold, BeganFront, FailedAt, IsUntouched, NamesSomething, OverLimit, ReadOnce, SourceTrace, Unread, is_too_large, names_asked, names_of, objects_of, source_failure, total_size}
+use Rattle.np_frame.specs.Prelude.{AreTold, BeganFront, FailedAt, IsUntouched, NamesSomething, OverLimit, ReadOnce, SourceTrace, Unread, input_names, is_too_large, names_asked, objects_of, source_failure, total_size}
 use Rattle.np_frame.specs.declared.sources.TheConstants.{SIZE_LIMIT}
 use Rattle.np_frame.specs.declared.sources.SourceFault.{SourceFault}
 use Rattle.np_frame.specs.declared.sources.SourceFault.TheVariants as unread
@@ -45,7 +45,7 @@ BeganFront-over source names over = record {
 -- ---- a report on the bytes that were read is one on those that the source told
 
 -- what may be written for inputs that fit is the job's text
-pub output-fits : (job : Job) (texts : List (List ℕ)) → is_too_large texts ≡ false → output (Some job) texts ≡ text_of job texts
+pub output-fits : (job : Job) (texts : List (List ℕ)) → is_too_large texts ≡ false → output (Some job) texts ≡ printed_text job texts
 unfolding output
 output-fits job texts fits = rw fits refl
 
@@ -57,11 +57,11 @@ unfolding refusal
 fault-is job texts reply is = ap fault_in is
 
 text-is : (job : Job) (texts : List (List ℕ)) (reply : Result (List ℕ) Fault) → is_too_large texts ≡ false → reply_in job texts (objects_of job texts) ≡ reply → output (Some job) texts ≡ text_in reply
-unfolding text_of
+unfolding printed_text
 text-is job texts reply fits is = output-fits job texts fits ∙ ap text_in is
 
 pub Cause-from_answers : (job : Job) (source : SourceTrace) (out : SinkTrace) (texts : List (List ℕ)) (outcome : Result Ending Failure) →
-    ((told : List (List ℕ)) → AreTold source.holds source.left (names_of job) told → texts ≡ told) → total_size texts ≤ SIZE_LIMIT → ReadOnce source (names_of job) → Answers job texts out outcome →
+    ((told : List (List ℕ)) → AreTold source.holds source.left (input_names job) told → texts ≡ told) → total_size texts ≤ SIZE_LIMIT → ReadOnce source (input_names job) → Answers job texts out outcome →
     Cause (ran (Some job) source out) outcome
 unfolding ending_of
 Cause-from_answers job source out texts (Ok ends) read size once answers =
@@ -97,7 +97,7 @@ Cause-from_answers job source out texts (Err NoMemory) read size once answers =
     let less : TookLess out.before out.after (output (Some job) texts) = subst (TookLess out.before out.after)
     (sym (text-is job texts (reply_in job texts (objects_of job texts)) (fits_limit texts size) refl)) answers in
     record {
-      began = BeganFront-all source (names_of job) once;
+      began = BeganFront-all source (input_names job) once;
       less = λ told tells. subst (λ (ts : List (List ℕ)). TookLess out.before out.after (output (Some job) ts)) (read told tells) less;
     }
 Cause-from_answers job source out texts (Err Usage) read size once answers = absurd answers
@@ -117,10 +117,10 @@ Cause-words asked source out words.NoMemory nothing untouched kept = record {
 
 -- memory is refused before anything is read
 pub Cause-unbegun : (job : Job) (source : SourceTrace) (out : SinkTrace) → IsUntouched source → IsKept out → Cause (ran (Some job) source out) (Err NoMemory)
-Cause-unbegun job source out untouched kept = record { began = BeganFront-none source (names_of job) untouched; less = λ texts told. TookLess-kept out (output (Some job) texts) kept }
+Cause-unbegun job source out untouched kept = record { began = BeganFront-none source (input_names job) untouched; less = λ texts told. TookLess-kept out (output (Some job) texts) kept }
 
 -- the inputs are not read
-pub Cause-unread : (job : Job) (source : SourceTrace) (out : SinkTrace) (fault : SourceFault) → IsKept out → Unread source (names_of job) fault →
+pub Cause-unread : (job : Job) (source : SourceTrace) (out : SinkTrace) (fault : SourceFault) → IsKept out → Unread source (input_names job) fault →
     Cause (ran (Some job) source out) (Err (source_failure fault))
 Cause-unread job source out (unread.CannotRead name) kept why = record { at = why; kept = kept }
 Cause-unread job source out unread.TooLarge kept why = record { asked = refl; over = why; kept = kept }
@@ -136,12 +136,12 @@ Cause-asked job source out outcome cause usage =
 
 -- the inputs that a run began are the first of its names
 pub Cause-began : (run : Run) (outcome : Result Ending Failure) → Cause run outcome → BeganFront run.source (names_asked run.asked)
-Cause-began run (Ok ends) cause = subst (BeganFront run.source) (sym (ap names_asked cause.asked)) (BeganFront-all run.source (names_of cause.job) cause.read)
+Cause-began run (Ok ends) cause = subst (BeganFront run.source) (sym (ap names_asked cause.asked)) (BeganFront-all run.source (input_names cause.job) cause.read)
 Cause-began run (Err Usage) cause = BeganFront-none run.source (names_asked run.asked) cause.source
 Cause-began run (Err TooLarge) cause = BeganFront-over run.source (names_asked run.asked) cause.over
-Cause-began run (Err (Refused fault)) cause = subst (BeganFront run.source) (sym (ap names_asked cause.asked)) (BeganFront-all run.source (names_of cause.job) cause.read)
+Cause-began run (Err (Refused fault)) cause = subst (BeganFront run.source) (sym (ap names_asked cause.asked)) (BeganFront-all run.source (input_names cause.job) cause.read)
 Cause-began run (Err (CannotRead name)) cause = BeganFront-failed run.source (names_asked run.asked) name cause.at
-Cause-began run (Err CannotWrite) cause = subst (BeganFront run.source) (sym (ap names_asked cause.asked)) (BeganFront-all run.source (names_of cause.job) cause.read)
+Cause-began run (Err CannotWrite) cause = subst (BeganFront run.source) (sym (ap names_asked cause.asked)) (BeganFront-all run.source (input_names cause.job) cause.read)
 Cause-began run (Err NoMemory) cause = cause.began
 
 -- where the line of a failure wants memory that is refused, the run ended for want of memory: nothing was written

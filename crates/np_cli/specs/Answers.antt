@@ -54,22 +54,22 @@ report_notes (Flatten files) lists = other_notes lists
 report_notes (Sample n) lists = no_notes
 
 -- whether all that a job was to check holds: of every other job than `check` there is nothing to check
-unfoldable pub holds : Job → List (List ℕ) → EstateLists → Bool
-holds (ListJob format report controller focus side files) texts lists = true
-holds (Explain from to files) texts lists = true
-holds (Exposure workload format files) texts lists = true
-holds (Evaluate from to proto port files) texts lists = true
-holds (Unused files) texts lists = true
-holds (Check statement files) texts lists = all_hold (statement_bytes texts) lists
-holds (Flatten files) texts lists = true
-holds (Sample n) texts lists = true
+unfoldable pub check_holds : Job → List (List ℕ) → EstateLists → Bool
+check_holds (ListJob format report controller focus side files) texts lists = true
+check_holds (Explain from to files) texts lists = true
+check_holds (Exposure workload format files) texts lists = true
+check_holds (Evaluate from to proto port files) texts lists = true
+check_holds (Unused files) texts lists = true
+check_holds (Check statement files) texts lists = all_hold (statement_bytes texts) lists
+check_holds (Flatten files) texts lists = true
+check_holds (Sample n) texts lists = true
 
 abbrev pub ends_so : Bool → ReportNotes → Ending
 ends_so true notes = Done notes
 ends_so false notes = Violated
 
 abbrev pub ending : Job → List (List ℕ) → EstateLists → Ending
-ending job texts lists = ends_so (holds job texts lists) (report_notes job lists)
+ending job texts lists = ends_so (check_holds job texts lists) (report_notes job lists)
 
 abbrev pub ending_in : Job → List (List ℕ) → Result EstateLists Fault → Ending
 ending_in job texts (Ok lists) = ending job texts lists
@@ -88,8 +88,8 @@ unfoldable pub refusal : Job → List (List ℕ) → Option Fault
 refusal job texts = fault_in (reply_in job texts (objects_of job texts))
 
 -- what is printed where there is none
-unfoldable pub text_of : Job → List (List ℕ) → List ℕ
-text_of job texts = text_in (reply_in job texts (objects_of job texts))
+unfoldable pub printed_text : Job → List (List ℕ) → List ℕ
+printed_text job texts = text_in (reply_in job texts (objects_of job texts))
 
 -- how the report ends where there is none
 unfoldable pub ending_of : Job → List (List ℕ) → Ending
@@ -98,7 +98,7 @@ ending_of job texts = ending_in job texts (objects_of job texts)
 -- what may be written: the whole text where the bytes are accepted, else nothing
 unfoldable pub output : Option Job → List (List ℕ) → List ℕ
 output None texts = []
-output (Some job) texts = if is_too_large texts then [] else text_of job texts
+output (Some job) texts = if is_too_large texts then [] else printed_text job texts
 
 -- the table of a sample can be counted; of other jobs nothing is
 abbrev pub IsCountable : Job → EstateLists → Type 0

@@ -5,7 +5,7 @@ use Rattle.np_cli.specs.Answers.{IsLawfulIn, ending_of, output, refusal}
 use Rattle.np_cli.specs.Messages.{message}
 use Rattle.np_cli.specs.Runs.{AskedNothing, KnowsBytes, ReadTooMuch, Run, StoppedReading}
 use Rattle.np_command.specs.Prelude.{IsKept, Said, SinkTrace, TookWhole}
-use Rattle.np_frame.specs.Prelude.{BeganFront, ReadOnce, is_too_large, names_asked, names_of, objects_of}
+use Rattle.np_frame.specs.Prelude.{BeganFront, ReadOnce, input_names, is_too_large, names_asked, objects_of}
 use Rattle.np_cli.specs.Statuses.{status_of}
 use Rattle.np_cli.specs.Types.{CannotRead, CannotWrite, Ending, Failure, Fault, Job, NoMemory, Refused, Status, TooLarge, Usage}
 
@@ -25,7 +25,7 @@ pub record IsReported (run : Run) (job : Job) (ends : Ending) (texts : List (Lis
 pub record ReportedExactly (run : Run) (ends : Ending) : Type 0 where
   pub job : Job
   pub asked : run.asked ≡ Some job
-  pub read : ReadOnce run.source (names_of job)
+  pub read : ReadOnce run.source (input_names job)
   pub unfailed : run.out.faults_after ≡ run.out.faults_before
   pub told : (texts : List (List ℕ)) → KnowsBytes run texts → IsReported run job ends texts
 
@@ -33,7 +33,7 @@ pub record ReportedExactly (run : Run) (ends : Ending) : Type 0 where
 pub record RefusedExactly (run : Run) (fault : Fault) : Type 0 where
   pub job : Job
   pub asked : run.asked ≡ Some job
-  pub read : ReadOnce run.source (names_of job)
+  pub read : ReadOnce run.source (input_names job)
   pub kept : IsKept run.out
   pub fits : (texts : List (List ℕ)) → KnowsBytes run texts → is_too_large texts ≡ false
   pub found : (texts : List (List ℕ)) → KnowsBytes run texts → refusal job texts ≡ Some fault
@@ -42,7 +42,7 @@ pub record RefusedExactly (run : Run) (fault : Fault) : Type 0 where
 pub record StoppedExactly (run : Run) : Type 0 where
   pub job : Job
   pub asked : run.asked ≡ Some job
-  pub read : ReadOnce run.source (names_of job)
+  pub read : ReadOnce run.source (input_names job)
   pub rose : Rose run.out.faults_before run.out.faults_after
   pub accepted : (texts : List (List ℕ)) → KnowsBytes run texts → IsAccepted job texts
   pub front : (texts : List (List ℕ)) → KnowsBytes run texts → TookFront run.out.before run.out.after (output run.asked texts)

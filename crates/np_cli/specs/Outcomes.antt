@@ -4,7 +4,7 @@ use Rattle.std.specs.Io.KnownBytes.{append_known}
 use Rattle.np_io.specs.Prelude.{Rose, TookFront, TookLess}
 use Rattle.np_cli.specs.Messages.{message}
 use Rattle.np_cli.specs.Runs.{AskedNothing, KnowsBytes, ReadTooMuch, Run, StoppedReading}
-use Rattle.np_frame.specs.Prelude.{BeganFront, ReadOnce, inputs_of, is_too_large, names_asked, names_of}
+use Rattle.np_frame.specs.Prelude.{BeganFront, ReadOnce, input_names, inputs_of, is_too_large, names_asked}
 use Rattle.np_cli.specs.Statuses.{status_of}
 use Rattle.np_command.specs.Prelude.{IsKept, Said, SinkTrace, lists_of}
 use Rattle.np_command_check.specs.Prelude.{ChecksAll, FindsBroken, RefusesCheck, statement_bytes}
@@ -71,7 +71,7 @@ pub record IsReportOn (job : Job) (texts : List (List ℕ)) (out : SinkTrace) (t
 pub record Reported (run : Run) (ends : Ending) : Type 0 where
   pub job : Job
   pub asked : run.asked ≡ Some job
-  pub read : ReadOnce run.source (names_of job)
+  pub read : ReadOnce run.source (input_names job)
   pub unfailed : run.out.faults_after ≡ run.out.faults_before
   pub fits : (texts : List (List ℕ)) → KnowsBytes run texts → is_too_large texts ≡ false
   pub notes : (texts : List (List ℕ)) (lists : EstateLists) → KnowsBytes run texts → lists_of (inputs_of job texts) ≡ Ok lists → NotesLeftOut job lists ends
@@ -80,7 +80,7 @@ pub record Reported (run : Run) (ends : Ending) : Type 0 where
 pub record RefusedFor (run : Run) (fault : Fault) : Type 0 where
   pub job : Job
   pub asked : run.asked ≡ Some job
-  pub read : ReadOnce run.source (names_of job)
+  pub read : ReadOnce run.source (input_names job)
   pub kept : IsKept run.out
   pub fits : (texts : List (List ℕ)) → KnowsBytes run texts → is_too_large texts ≡ false
   pub found : (texts : List (List ℕ)) → KnowsBytes run texts → HaveFault job texts fault
@@ -89,7 +89,7 @@ pub record RefusedFor (run : Run) (fault : Fault) : Type 0 where
 pub record StoppedWriting (run : Run) : Type 0 where
   pub job : Job
   pub asked : run.asked ≡ Some job
-  pub read : ReadOnce run.source (names_of job)
+  pub read : ReadOnce run.source (input_names job)
   pub rose : Rose run.out.faults_before run.out.faults_after
   pub front : (texts : List (List ℕ)) → KnowsBytes run texts → (text : List ℕ) × IsReportOn job texts run.out text × TookFront run.out.before run.out.after text
 
@@ -111,7 +111,7 @@ Leaves run (Err CannotWrite) = StoppedWriting run
 Leaves run (Err NoMemory) = LackedMemory run
 
 -- Some outcome left this, was said on the error sink, and gives the status.
-pub record Ends (run : Run) (err : SinkTrace) (status : Status) : Type 0 where
+pub record Concludes (run : Run) (err : SinkTrace) (status : Status) : Type 0 where
   pub outcome : Result Ending Failure
   pub left : Leaves run outcome
   pub said : Said err (message outcome)

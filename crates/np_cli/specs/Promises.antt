@@ -2,7 +2,7 @@
 use Rattle.std.specs.Prelude.{◌≡◌, ℕ, ◌+◌, ◌^◌, ◌<◌, ◌≤◌, ◌⊎◌, List, true, None, Option, Some, Contains, Err}
 use Rattle.np_io.specs.Prelude.{Rose}
 use Rattle.np_cli.specs.Messages.{message}
-use Rattle.np_cli.specs.Outcomes.{Ends, Says}
+use Rattle.np_cli.specs.Outcomes.{Concludes, Says}
 use Rattle.np_cli.specs.Runs.{Run, KnowsBytes}
 use Rattle.np_command.specs.Prelude.{IsKept, Said, SinkTrace}
 use Rattle.np_frame.specs.Prelude.{BeganFront, is_too_large, names_asked}
@@ -54,7 +54,7 @@ BlamesWords asked answer = (answer ≡ status.Usage → asked ≡ None) × (aske
 -- `error: out of memory` and always answers NoMemory keeps every promise. That this one does otherwise is only tested.
 pub record Promises (run : Run) (err : SinkTrace) (answer : Status) : Type 0 where
   -- how it ended, and what it left of its inputs and of the report's sink
-  pub ends : Ends run err answer
+  pub ends : Concludes run err answer
   -- what a report says of the bytes of the inputs
   pub says : SaysOfInputs run answer
   -- which inputs are too large

@@ -36,7 +36,7 @@ const NOTHING: Notes = Notes {
 
 /// Writes what a job prints by the bytes that it read and what they say, or refuses that. What it refuses, it refuses before
 /// the first byte is written. Answers whether all that the job was to check holds, of which only `check` has anything.
-#[tactic(auto, unfolding(crate::specs::Answers::reply, crate::specs::Answers::holds, crate::specs::Counts::reply_steps))]
+#[tactic(auto, unfolding(crate::specs::Answers::reply, crate::specs::Answers::check_holds, crate::specs::Counts::reply_steps))]
 pub(crate) fn reply<O: Sink, L: Ledger>(
     alloc: Global,
     job: &Job,
@@ -49,7 +49,7 @@ pub(crate) fn reply<O: Sink, L: Ledger>(
     ensures wrote { Wrote (sunk O.taken O.faults out.old out.new)
         (spec.reply job.now (map (λ text. text.items) texts.now) folded.now)
         (without_value result) }
-    ensures holds { IfOk result (λ holds. holds ≡ spec.holds job.now (map (λ text. text.items) texts.now) folded.now) }
+    ensures holds { IfOk result (λ holds. holds ≡ spec.check_holds job.now (map (λ text. text.items) texts.now) folded.now) }
     ensures least { steps.old ≤ steps.new }
     ensures most { RoseAtMost (reply_steps job.now folded.now) steps.old steps.new }
 {

@@ -54,7 +54,14 @@ fn answer_counted<L: Ledger>(
     let mut report = KeptSink::new(alloc);
     let mut said = KeptSink::new(alloc);
     let mut steps: Steps<L> = Steps::new(blank);
-    let status = np_main(alloc, words, &mut inputs, &mut report, &mut said, &mut steps);
+    let status = np_main(
+        alloc,
+        words,
+        &mut inputs,
+        &mut report,
+        &mut said,
+        &mut steps,
+    );
     if status == Status::NoMemory {
         return Err(NoMemory);
     }

@@ -3,7 +3,7 @@ use Rattle.std.proofs.Common.{◌≡◌, ℕ, List, Option, Result, Ok, Err, len
 use Rattle.std.specs.Prelude.{is_none}
 use Rattle.np_command.proofs.SinkLemmas.{TookLess-kept}
 use Rattle.np_command.specs.Prelude.{IsKept, SinkTrace, Wrote, text_in}
-use Rattle.np_command_check.specs.Prelude.{AskedLine, Broken, EndFault, EstateLists, StatementLine, UnknownEnd, all_hold, asked_in, asked_of, check_reply, end_failure, finding, finding_of, hold_in, line_fault, name_fault}
+use Rattle.np_command_check.specs.Prelude.{AskedLine, Broken, EndFault, EstateLists, StatementLine, UnknownEnd, all_hold, asked_in, asked_lines, check_reply, end_failure, finding, finding_of, hold_in, line_fault, name_fault}
 use Rattle.np_statements.proofs.AmongLemmas.{among-found, among-unknown}
 use Rattle.np_statements.specs.Prelude.{GivesEnds, broken_among, ends_found, first_broken, statements_of}
 use Rattle.np_statements.specs.declared.end_fault.EndFault.TheVariants as end
@@ -12,7 +12,7 @@ use Rattle.np_statements.specs.declared.end_fault.EndFault.TheVariants as end
 asked-by : (bytes : List ℕ) (lists : EstateLists) (lines : List StatementLine) (found : Result (List AskedLine) (List ℕ)) → statements_of bytes ≡ Ok lines → ends_found lists lines ≡ found →
     asked_in bytes lists ≡ name_fault found
 unfolding asked_in
-asked-by bytes lists lines found read is = ap (λ (all : Result (List StatementLine) ℕ). asked_of lists (line_fault all)) read ∙ ap name_fault is
+asked-by bytes lists lines found read is = ap (λ (all : Result (List StatementLine) ℕ). asked_lines lists (line_fault all)) read ∙ ap name_fault is
 
 pub reply_found : (bytes : List ℕ) (lists : EstateLists) (lines : List StatementLine) (broken : Option Broken) → statements_of bytes ≡ Ok lines → broken_among lists lines ≡ Ok broken →
     check_reply bytes lists ≡ Ok (finding lists (length lines) broken)

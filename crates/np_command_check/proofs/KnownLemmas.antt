@@ -3,13 +3,13 @@ use Rattle.std.proofs.Common.{◌≡◌, ℕ, ◌<◌, List, [], ◌∷◌, Opti
 use Rattle.std.proofs.lemmas.List.Elements.{All-cons, All-nil}
 use Rattle.np_command_check.specs.Prelude.{Addresses, AskedLine, Block, EndForm, Ends, EstateLists, IsFirstUnknown, IsKnown, Namespace, Pods, StatementLine, forms_of}
 use Rattle.np_statements.specs.declared.statement_text.EndForm.TheVariants.{Work}
-use Rattle.np_fold.specs.Prelude.{folding_of, number_named, number_of}
+use Rattle.np_fold.specs.Prelude.{folding_of, number_named, workload_number}
 use Rattle.np_model.specs.Prelude.{IsLawful}
 use Rattle.np_statements.proofs.EndLemmas.{named-within}
 use Rattle.np_statements.proofs.FormLemmas.{names-pods, number-within, unknown-named}
 use Rattle.np_statements.proofs.FoundLemmas.{asked-by, found-by}
 use Rattle.np_statements.proofs.StepLemmas.{same_ok}
-use Rattle.np_statements.specs.Prelude.{asked_of, ends_found, ends_of, named_alone, works_alone, ◌>>=◌}
+use Rattle.np_statements.specs.Prelude.{asked_line, ends_found, ends_of, named_alone, works_alone, ◌>>=◌}
 use Rattle.np_kinds.proofs.MemberLemmas.{member-number, members-some, members-within, source-member}
 use Rattle.np_kinds.specs.Prelude.{IsWorkload, source_pod}
 
@@ -18,7 +18,7 @@ use Rattle.np_kinds.specs.Prelude.{IsWorkload, source_pod}
 -- the first pod of a workload is one of the estate, and of the workload
 pub record IsPodOf (lists : EstateLists) (work place : ℕ) : Type 0 where
   pub within : place < length lists.pods
-  pub number : number_of lists place ≡ work
+  pub number : workload_number lists place ≡ work
 
 pub pod-of : (lists : EstateLists) (work : ℕ) → IsWorkload lists work → IsPodOf lists work (source_pod (folding_of lists) work)
 pod-of lists work is =
@@ -44,7 +44,7 @@ known-form lists (Work name) ends lawful is = of (number_named (folding_of lists
         let place = source_pod (folding_of lists) work in
         let pod = pod-of lists work (named-within lists name work found) in
         let same : works_alone (work ∷ []) ≡ ends = same_ok (works_alone (work ∷ [])) ends alone in
-        let among : Contains ends.works (number_of lists place) = subst (λ (one : Ends). Contains one.works (number_of lists place)) same (0, omega arith, sym pod.number) in
+        let among : Contains ends.works (workload_number lists place) = subst (λ (one : Ends). Contains one.works (workload_number lists place)) same (0, omega arith, sym pod.number) in
         (place, (pod.within, (names-pods lists (Work name) ends place lawful is pod.within).0 among))
 
 -- one whose ends are not is the name of no workload
@@ -61,7 +61,7 @@ unknown-form lists (Block cidr) name is = absurd (cc)
 unknown-form lists (Work other) name is = of (number_named (folding_of lists) other) refl is
   where
     never : ends_of lists (Work name) ≡ Err name → IsKnown lists (Work name) → ⊥
-    never none known = unknown-named lists name none (number_of lists known.0) (number-within lists known.0 known.1.0) known.1.1
+    never none known = unknown-named lists name none (workload_number lists known.0) (number-within lists known.0 known.1.0) known.1.1
 
     of : (found : Option ℕ) → number_named (folding_of lists) other ≡ found → named_alone other found ≡ Err name → IsUnknown lists (Work other) name
     of None none alone = let same : other ≡ name = cc in record { is = ap Work same; unknown = never (ap (λ (one : List ℕ). ends_of lists (Work one)) (sym same) ∙ is) }
@@ -117,7 +117,7 @@ found_by line source destination rest =
 
 -- the first name that no workload has
 pub first-unknown : (lists : EstateLists) (lines : List StatementLine) (name : List ℕ) → IsLawful lists → ends_found lists lines ≡ Err name → IsFirstUnknown lists lines name
-unfolding asked_of
+unfolding asked_line
 first-unknown lists [] name lawful is = absurd (cc)
 first-unknown lists (line ∷ lines) name lawful is =
     by (ends_of lists line.statement.source) refl (ends_of lists line.statement.destination) refl (ends_found lists lines) refl is (first-unknown lists lines name lawful)

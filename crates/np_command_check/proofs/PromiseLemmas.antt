@@ -3,7 +3,7 @@ use Rattle.std.proofs.Common.{◌≡◌, ℕ, List, Option, None, Some, Result, 
 use Rattle.std.specs.Prelude.{All, drop}
 use Rattle.std.proofs.lemmas.Option.{none-some, same_Some}
 use Rattle.np_command.specs.Prelude.{SinkTrace, TookWhole, fault_in, lists_of, text_in}
-use Rattle.np_command_check.specs.Prelude.{AskedLine, BadStatement, Broken, ChecksAll, EstateLists, Fault, FindsBroken, IsAskedOf, IsFirstBrokenLine, RefusesCheck, StatementLine, UnknownEnd, all_hold, asked_in, asked_of, check_reply, finding_of, hold_in, line_fault, name_fault, statement_bytes}
+use Rattle.np_command_check.specs.Prelude.{AskedLine, BadStatement, Broken, ChecksAll, EstateLists, Fault, FindsBroken, IsAskedOf, IsFirstBrokenLine, RefusesCheck, StatementLine, UnknownEnd, all_hold, asked_in, asked_lines, check_reply, finding_of, hold_in, line_fault, name_fault, statement_bytes}
 use Rattle.np_command_check.proofs.BrokenLemmas.{first-line}
 use Rattle.np_command_check.proofs.FileLemmas.{first-bad, lines-of}
 use Rattle.np_command_check.proofs.KnownLemmas.{first-unknown, forms-known}
@@ -28,7 +28,7 @@ names-known bytes lists lines asked (Ok own) read found is =
     let same : own ≡ asked = cc in
     record { lines = lines; read = read; found = subst (λ (one : List AskedLine). ends_found lists lines ≡ Ok one) same found }
 
-lines-known : (bytes : List ℕ) (lists : EstateLists) (asked : List AskedLine) (found : Result (List StatementLine) ℕ) → statements_of bytes ≡ found → asked_of lists (line_fault found) ≡ Ok asked →
+lines-known : (bytes : List ℕ) (lists : EstateLists) (asked : List AskedLine) (found : Result (List StatementLine) ℕ) → statements_of bytes ≡ found → asked_lines lists (line_fault found) ≡ Ok asked →
     IsOfLines bytes lists asked
 lines-known bytes lists asked (Err line) read is = absurd (cc)
 lines-known bytes lists asked (Ok lines) read is = names-known bytes lists lines asked (ends_found lists lines) read refl is
@@ -110,7 +110,7 @@ names-refused bytes lists lines (Err name) fault lawful read found told =
     subst (RefusesCheck bytes lists) (same_Some (UnknownEnd name) fault told) (lines, lines-of bytes lines read, first-unknown lists lines name lawful found)
 
 lines-refused : (bytes : List ℕ) (lists : EstateLists) (found : Result (List StatementLine) ℕ) (fault : Fault) → IsLawful lists → statements_of bytes ≡ found →
-    fault_in (finding_of lists (asked_of lists (line_fault found))) ≡ Some fault → RefusesCheck bytes lists fault
+    fault_in (finding_of lists (asked_lines lists (line_fault found))) ≡ Some fault → RefusesCheck bytes lists fault
 lines-refused bytes lists (Err number) fault lawful read told = subst (RefusesCheck bytes lists) (same_Some (BadStatement number) fault told) (first-bad bytes number read)
 lines-refused bytes lists (Ok lines) fault lawful read told = names-refused bytes lists lines (ends_found lists lines) fault lawful read refl told
 

@@ -2,12 +2,12 @@
 use Rattle.std.specs.Prelude.{ℕ, ◌≡◌, ◌≤◌, List, ◌∷◌, ◌++◌, false, All, Contains}
 use Rattle.np_check.specs.Prelude.{allows_between, comes_before, complies, families_between, family_before, proto_before}
 use Rattle.np_command_check.specs.Types.{At, Broken, Counterexample, EndForm, EstateLists, PlaceEnd, StatementLine, StatementText, Work}
-use Rattle.np_fold.specs.Prelude.{number_of}
+use Rattle.np_fold.specs.Prelude.{workload_number}
 use Rattle.np_statements.specs.Prelude.{IsAtPort, IsNamedAddress, IsNamedPod, LineHolds}
 
 -- the form names an end of a packet: some pod of the workload, or the address
 abbrev pub NamesPlace : EstateLists → EndForm → PlaceEnd → Type 0
-NamesPlace lists form (Work work) = (place : ℕ) × IsNamedPod lists form place × (number_of lists place ≡ work)
+NamesPlace lists form (Work work) = (place : ℕ) × IsNamedPod lists form place × (workload_number lists place ≡ work)
 NamesPlace lists form (At address) = IsNamedAddress form address
 
 -- the statement speaks of the packet, and whether it is allowed is not what it wants

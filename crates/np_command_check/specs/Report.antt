@@ -13,14 +13,14 @@ abbrev pub name_fault : {X : Type 0} → Result X (List ℕ) → Result X Fault
 name_fault (Ok x) = Ok x
 name_fault (Err name) = Err (UnknownEnd name)
 
-abbrev pub asked_of : EstateLists → Result (List StatementLine) Fault → Result (List AskedLine) Fault
-asked_of lists (Ok statements) = name_fault (ends_found lists statements)
-asked_of lists (Err fault) = Err fault
+abbrev pub asked_lines : EstateLists → Result (List StatementLine) Fault → Result (List AskedLine) Fault
+asked_lines lists (Ok statements) = name_fault (ends_found lists statements)
+asked_lines lists (Err fault) = Err fault
 
 -- What the lines of a file ask of an estate, or the fault that stands first: a line that is no statement before a name
 -- that is unknown.
 unfoldable pub asked_in : List ℕ → EstateLists → Result (List AskedLine) Fault
-asked_in bytes lists = asked_of lists (line_fault (statements_of bytes))
+asked_in bytes lists = asked_lines lists (line_fault (statements_of bytes))
 
 -- ---- what is found
 

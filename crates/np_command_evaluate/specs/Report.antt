@@ -33,8 +33,8 @@ unfoldable pub known_end : EstateLists → EndWord → Result End Fault
 known_end lists word = or_unknown (end_text word) (λ one. one) (end_named lists word)
 
 -- the ends of a packet are no one pod
-abbrev pub are_apart : List ℕ → End → End → Result ⊤ Fault
-are_apart from source destination = if are_one_pod source destination then Err (SameEnd from) else Ok tt
+abbrev pub must_be_apart : List ℕ → End → End → Result ⊤ Fault
+must_be_apart from source destination = if are_one_pod source destination then Err (SameEnd from) else Ok tt
 
 -- ---- lines
 
@@ -75,7 +75,7 @@ abbrev pub between : EstateLists → EndWord → EndWord → PortSpot → Result
 between lists from to spot (Err fault) destination = Err fault
 between lists from to spot (Ok source) (Err fault) = Err fault
 between lists from to spot (Ok source) (Ok destination) =
-    lines_or (are_apart (end_text from) source destination) (verdict_lines lists (end_text from) (end_text to) spot source destination)
+    lines_or (must_be_apart (end_text from) source destination) (verdict_lines lists (end_text from) (end_text to) spot source destination)
 
 -- The verdict of the packet, or the fault of its ends that stands first.
 unfoldable pub evaluate_reply : EndWord → EndWord → PortSpot → EstateLists → Result (List ℕ) Fault

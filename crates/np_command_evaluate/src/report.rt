@@ -143,7 +143,7 @@ fn is_slash_and(bytes: &[u8], name: &str) -> bool
 
 // Refuses ends that are one pod.
 fn must_be_apart(source: End, destination: End, from: &Text) -> Result<(), Failure>
-    ensures { Gives result (spec.are_apart from.now source destination) }
+    ensures { Gives result (spec.must_be_apart from.now source destination) }
 {
     if are_one_pod(source, destination) {
         return Err(Failure::Refused(Fault::SameEnd { name: from.copy()? }));

@@ -6,7 +6,7 @@ use Rattle.std.proofs.lemmas.Cmp.{nat_cmp_total}
 use Rattle.std.specs.Cmp.{tied_itself}
 use Rattle.std.specs.Ordering.{nat_cmp}
 use Rattle.np_base.proofs.Lists.{Contains-one}
-use Rattle.np_command_explain.specs.Prelude.{Address, AreEnds, AreNamed, AskedEnd, At, End, EndWord, EstateLists, ExplainedEnds, Explains, Explanation, Family, Fault, Four, HasPods, HaveBothFamilies, IsAsked, IsFamilyBetween, IsRightIn, SameEnd, Six, Work, are_one, asked_end, destination_end, ends_between, explanations, in_families, of_both, one_for_all, one_for_each, source_end}
+use Rattle.np_command_explain.specs.Prelude.{Address, AreEnds, AreNamed, AskedEnd, At, End, EndWord, EstateLists, ExplainedEnds, Explains, Explanation, Family, Fault, Four, HasPods, HaveBothFamilies, IsAsked, IsFamilyBetween, IsRightIn, SameEnd, Six, Work, are_one, asked_end, destination_end, ends_between, explanations, in_families, one_for_all, one_for_each, shown_of_both, source_end}
 use Rattle.np_command.proofs.EndLemmas.{named_workload}
 use Rattle.np_command_explain.proofs.NamedLemmas.{AsksFor, IsOf, named-of}
 use Rattle.np_command.specs.Prelude.{family_asked, only_family, or_unknown}
@@ -15,7 +15,7 @@ use Rattle.np_model.specs.declared.pod.Pod.{Pod}
 use Rattle.np_explain.proofs.ExplanationLemmas.{explanation-right, right-alike, same_sides-Decides, same_sides-right}
 use Rattle.np_explain.specs.Prelude.{IsRightFor, explanation_of, same_sides}
 use Rattle.np_fold.proofs.WorkloadLemmas.{pods-ascend}
-use Rattle.np_fold.specs.Prelude.{Folding, folding_of, members_of, number_named, number_of}
+use Rattle.np_fold.specs.Prelude.{Folding, folding_of, members_of, number_named, workload_number}
 use Rattle.np_routes.proofs.KindRoutes.{one_workload-alike}
 use Rattle.np_rules.specs.Prelude.{IsEndOf, end_of}
 use Rattle.np_rules.specs.declared.packet.End.TheVariants as end
@@ -71,11 +71,11 @@ pods-apart lists a b a_in b_in alone same = by (a == b) refl
     b_has : Contains (members_of (folding_of lists) b) (destination_pod (folding_of lists) a b)
     b_has = destination-member (folding_of lists) a b (members-some lists (folding_of lists) b refl b_in) alone
 
-    number : (w p : ℕ) → IsWorkload lists w → Contains (members_of (folding_of lists) w) p → number_of lists p ≡ w
+    number : (w p : ℕ) → IsWorkload lists w → Contains (members_of (folding_of lists) w) p → workload_number lists p ≡ w
     number w p w_in has = member-number lists w p (members-within lists (folding_of lists) w p refl w_in has) has
 
     one : a ≡ b
-    one = sym (number a (source_pod (folding_of lists) a) a_in a_has) ∙ ap (number_of lists) same ∙ number b (destination_pod (folding_of lists) a b) b_in b_has
+    one = sym (number a (source_pod (folding_of lists) a) a_in a_has) ∙ ap (workload_number lists) same ∙ number b (destination_pod (folding_of lists) a b) b_in b_has
 
     by : (equal : Bool) → (a == b) ≡ equal → ⊥
     by false is = false≢true (sym is ∙ eq-eqb a b one)
@@ -150,7 +150,7 @@ ends-between lists from source destination ends is = by (are_one (folding_of lis
 
 -- a pod of the workload is of one kind with the one that stands for it
 member-same : (lists : EstateLists) (number place p : ℕ) → IsLawful lists → IsWorkload lists number → Contains (members_of (folding_of lists) number) place
-    → p < length lists.pods → number_of lists p ≡ number → SameKindEnd lists (end_of lists (end.Pod place)) (end_of lists (end.Pod p))
+    → p < length lists.pods → workload_number lists p ≡ number → SameKindEnd lists (end_of lists (end.Pod place)) (end_of lists (end.Pod p))
 member-same lists number place p lawful number_in has p_in is =
     let place_in = members-within lists (folding_of lists) number place refl number_in has in
     SameKindEnd-ends lists (end_of lists (end.Pod place)) (end_of lists (end.Pod p))
@@ -232,7 +232,7 @@ explains-by lists from to None make only own both two = by (same_sides (make Fou
     each same Four = own Four
     each same Six = both same
 
-    by : (same : Bool) → same_sides (make Four) (make Six) ≡ same → Explains lists from to (of_both (make Four) (make Six))
+    by : (same : Bool) → same_sides (make Four) (make Six) ≡ same → Explains lists from to (shown_of_both (make Four) (make Six))
     by true same = one_for_all (make Four) (rw same refl) (each same)
     by false differ =
         one_for_each (make Four) (make Six) (rw differ refl) (own Four) (own Six) (two refl)

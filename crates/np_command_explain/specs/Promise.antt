@@ -13,12 +13,12 @@ use Rattle.np_rules.specs.declared.packet.End.TheVariants as end
 -- ---- the ends
 
 -- the pod at a place is one of the workload of a name
-abbrev pub IsPodOf : EstateLists → List ℕ → ℕ → Type 0
-IsPodOf lists name place = (one : Workload) × Contains (workloads_of lists) one × (one.name ≡ name) × Contains one.members place
+abbrev pub IsPodOfNamed : EstateLists → List ℕ → ℕ → Type 0
+IsPodOfNamed lists name place = (one : Workload) × Contains (workloads_of lists) one × (one.name ≡ name) × Contains one.members place
 
 -- a word names an end: each pod of the workload of its name, or its address
 abbrev pub NamesEnd : EstateLists → EndWord → End → Type 0
-NamesEnd lists (word.Named name) (end.Pod place) = IsPodOf lists name place
+NamesEnd lists (word.Named name) (end.Pod place) = IsPodOfNamed lists name place
 NamesEnd lists (word.Named name) (end.At address) = ⊥
 NamesEnd lists (word.At address) one = one ≡ end.At address
 

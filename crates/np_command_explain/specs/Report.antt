@@ -56,13 +56,13 @@ abbrev pub shown : Option Family → Explanation → Shown
 shown mark made = record { mark = mark; made = made }
 
 -- one where both sides have the same parts in both families, and else one for each, with the family's mark
-abbrev pub of_both : Explanation → Explanation → List Shown
-of_both four six = if same_sides four six then shown None four ∷ [] else shown (Some Four) four ∷ shown (Some Six) six ∷ []
+abbrev pub shown_of_both : Explanation → Explanation → List Shown
+shown_of_both four six = if same_sides four six then shown None four ∷ [] else shown (Some Four) four ∷ shown (Some Six) six ∷ []
 
 -- one where one family is asked about
 abbrev pub in_families : Option Family → (Family → Explanation) → List Shown
 in_families (Some one) make = shown None (make one) ∷ []
-in_families None make = of_both (make Four) (make Six)
+in_families None make = shown_of_both (make Four) (make Six)
 
 -- what is shown of two ends
 unfoldable pub explanations : EstateLists → ExplainedEnds → List Shown

@@ -197,7 +197,7 @@ fn explanation_in(
 
 // One of them where both sides have the same parts in both families, and else both, with their marks.
 fn of_both(alloc: Global, four: Explanation, six: Explanation) -> Result<Seq<Shown>, NoMemory>
-    ensures { IfOk result (λ shown. shown ≡ spec.of_both four six) }
+    ensures { IfOk result (λ shown. shown ≡ spec.shown_of_both four six) }
 {
     let mut shown = Seq::new(alloc);
     if same_sides(&four, &six) {

@@ -4,7 +4,7 @@ use Rattle.np_command_exposure.specs.Types.{EstateLists, Fault, Format, RowText,
 use Rattle.np_command.specs.Prelude.{SinkTrace, TookWhole, fault_in, lists_of, text_in}
 use Rattle.np_command.proofs.EndLemmas.{no_fault_at}
 use Rattle.np_command_exposure.proofs.SideLemmas.{all_rows-same, asked-sides, few-sides, first-over, rows_at, says-all, unknown-name}
-use Rattle.np_command_exposure.specs.Promise.{ExposesAll, RefusesExposure, texts_of, too_many, unknown}
+use Rattle.np_command_exposure.specs.Promise.{ExposesAll, RefusesExposure, texts_of_side, too_many, unknown}
 use Rattle.np_command_exposure.specs.Report.{exposure_of_sides, exposure_reply, exposure_text, first_fault, side_rows, sides_shown, text_unless}
 use Rattle.np_model.specs.Prelude.{IsLawful}
 use Rattle.np_report.specs.Prelude.{report_text}
@@ -17,7 +17,7 @@ unfolding exposure_text
 says_shown out workload format texts lists shown read lawful is none took =
     let asked = asked-sides lists workload shown is in
     let sides = asked.0 in
-    let same : flat_map (side_rows lists) shown ≡ flat_map (texts_of (rows_at lists)) sides = all_rows-same lists shown sides asked.2 in record {
+    let same : flat_map (side_rows lists) shown ≡ flat_map (texts_of_side (rows_at lists)) sides = all_rows-same lists shown sides asked.2 in record {
       lists = lists;
       sides = sides;
       rows = rows_at lists;

@@ -15,14 +15,14 @@ use Rattle.np_command.specs.Prelude.{or_unknown}
 use Rattle.np_command_exposure.specs.Types.{Direction, EstateLists, ExposureRow, Fault, RowText, ShownSide, Stranger, TooManyPatterns, UnknownEnd}
 use Rattle.np_command.proofs.EndLemmas.{no_workload, found-named}
 use Rattle.np_command_exposure.proofs.ExposureLemmas.{both-none, few-at}
-use Rattle.np_command_exposure.specs.Promise.{AreAsked, IsFirstOver, SaysWhatIsExposed, WorkloadSide, sides_of, texts_of, weight_of}
-use Rattle.np_command_exposure.specs.Report.{both_sides, first_fault, or_later, row_text, side_rows, sides_shown, weight_at, weight_fault}
+use Rattle.np_command_exposure.specs.Promise.{AreAsked, IsFirstOver, SaysWhatIsExposed, WorkloadSide, sides_of, texts_of_side, weight_of}
+use Rattle.np_command_exposure.specs.Report.{both_sides, exposure_row_text, first_fault, or_later, side_rows, sides_shown, weight_at, weight_fault}
 use Rattle.np_exposure.proofs.LeftLemmas.{rows_of-are}
 use Rattle.np_exposure.proofs.RightLemmas.{each_row-first, first_row-tells}
 use Rattle.np_command_exposure.proofs.WorkloadLemmas.{workload-rows}
 use Rattle.np_exposure.specs.Prelude.{FirstRowTells, is_hypothetical, mentions, rows_of, weight}
 use Rattle.np_exposure.specs.declared.exposures.TheConstants.{MOST_PATTERNS}
-use Rattle.np_fold.specs.Prelude.{Workload, folding_of, members_of, name_of, number_named, workloads_of}
+use Rattle.np_fold.specs.Prelude.{Workload, folding_of, members_of, name_of_workload, number_named, workloads_of}
 use Rattle.np_model.specs.Prelude.{IsLawful}
 use Rattle.np_rules.specs.Prelude.{PodSide, side_of}
 use Rattle.np_kinds.proofs.MemberLemmas.{member-number, members-some, members-within, source-member}
@@ -33,7 +33,7 @@ use Rattle.np_kinds.specs.Prelude.{IsWorkload, source_pod}
 -- the number is that of the workload
 pub record IsNumberOf (lists : EstateLists) (number : ℕ) (one : Workload) : Type 0 where
   pub within : IsWorkload lists number
-  pub name : name_of (folding_of lists) number ≡ one.name
+  pub name : name_of_workload (folding_of lists) number ≡ one.name
   pub members : members_of (folding_of lists) number ≡ one.members
 
 -- each number has a workload
@@ -153,23 +153,23 @@ abbrev pub rows_at : EstateLists → WorkloadSide → List ExposureRow
 rows_at lists side = rows_of (side_of lists (slice_index side.workload.members 0) side.direction)
 
 -- the texts of a side's rows are the same by the number and by the workload
-rows-same : (lists : EstateLists) (shown : ShownSide) (side : WorkloadSide) → IsSideOf lists shown side → side_rows lists shown ≡ texts_of (rows_at lists) side
+rows-same : (lists : EstateLists) (shown : ShownSide) (side : WorkloadSide) → IsSideOf lists shown side → side_rows lists shown ≡ texts_of_side (rows_at lists) side
 unfolding side_rows
 rows-same lists shown side is =
-    let texts : List ℕ → List ℕ → Direction → List RowText = λ name members direction. map (row_text name direction) (rows_of (side_of lists (slice_index members 0) direction)) in
+    let texts : List ℕ → List ℕ → Direction → List RowText = λ name members direction. map (exposure_row_text name direction) (rows_of (side_of lists (slice_index members 0) direction)) in
     let pods = members_of (folding_of lists) shown.workload in
     ap (λ (name : List ℕ). texts name pods shown.direction) is.number.name
     ∙ ap (λ (members : List ℕ). texts side.workload.name members shown.direction) is.number.members
     ∙ ap (λ (direction : Direction). texts side.workload.name side.workload.members direction) is.direction
 
 pub all_rows-same : (lists : EstateLists) (shown : List ShownSide) (sides : List WorkloadSide) → AreSidesOf lists shown sides
-    → flat_map (side_rows lists) shown ≡ flat_map (texts_of (rows_at lists)) sides
+    → flat_map (side_rows lists) shown ≡ flat_map (texts_of_side (rows_at lists)) sides
 all_rows-same lists [] [] are = refl
 all_rows-same lists [] (side ∷ sides) are = absurd are
 all_rows-same lists (one ∷ shown) [] are = absurd are
 all_rows-same lists (one ∷ shown) (side ∷ sides) are =
     ap (λ (texts : List RowText). texts ++ flat_map (side_rows lists) shown) (rows-same lists one side are.0)
-    ∙ ap (λ (texts : List RowText). texts_of (rows_at lists) side ++ texts) (all_rows-same lists shown sides are.1)
+    ∙ ap (λ (texts : List RowText). texts_of_side (rows_at lists) side ++ texts) (all_rows-same lists shown sides are.1)
 
 -- and they say what is exposed
 says-at : (lists : EstateLists) (shown : ShownSide) (side : WorkloadSide) → IsLawful lists → IsSideOf lists shown side → SaysWhatIsExposed lists side (rows_at lists side)
@@ -240,12 +240,12 @@ few-sides lists shown sides are none side has =
 
 -- the fault of a side is that of its weight
 over-at : (lists : EstateLists) (shown : ShownSide) (fault : Fault) → weight_fault lists shown ≡ Some fault
-    → (MOST_PATTERNS < weight_at lists shown) × (fault ≡ TooManyPatterns (name_of (folding_of lists) shown.workload) shown.direction (min (weight_at lists shown) (2 ^ 64 - 1)))
+    → (MOST_PATTERNS < weight_at lists shown) × (fault ≡ TooManyPatterns (name_of_workload (folding_of lists) shown.workload) shown.direction (min (weight_at lists shown) (2 ^ 64 - 1)))
 unfolding weight_fault
 over-at lists shown fault is = by (nat_lt MOST_PATTERNS (weight_at lists shown)) refl is
   where
     told : Fault
-    told = TooManyPatterns (name_of (folding_of lists) shown.workload) shown.direction (min (weight_at lists shown) (2 ^ 64 - 1))
+    told = TooManyPatterns (name_of_workload (folding_of lists) shown.workload) shown.direction (min (weight_at lists shown) (2 ^ 64 - 1))
 
     by : (over : Bool) → nat_lt MOST_PATTERNS (weight_at lists shown) ≡ over → (if over then Some told else None) ≡ Some fault
         → (MOST_PATTERNS < weight_at lists shown) × (fault ≡ told)
@@ -253,7 +253,7 @@ over-at lists shown fault is = by (nat_lt MOST_PATTERNS (weight_at lists shown))
     by false over is = absurd (cc)
 
 fault-same : (lists : EstateLists) (shown : ShownSide) (side : WorkloadSide) → IsSideOf lists shown side
-    → TooManyPatterns (name_of (folding_of lists) shown.workload) shown.direction (min (weight_at lists shown) (2 ^ 64 - 1))
+    → TooManyPatterns (name_of_workload (folding_of lists) shown.workload) shown.direction (min (weight_at lists shown) (2 ^ 64 - 1))
     ≡ TooManyPatterns side.workload.name side.direction (min (weight_of lists side) (2 ^ 64 - 1))
 fault-same lists shown side is =
     ap (λ (name : List ℕ). TooManyPatterns name shown.direction (min (weight_at lists shown) (2 ^ 64 - 1))) is.number.name

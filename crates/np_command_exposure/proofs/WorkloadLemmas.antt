@@ -7,10 +7,10 @@ use Rattle.np_base.proofs.Lists.{slice_get-some}
 use Rattle.np_command_exposure.specs.Types.{Direction, Egress, EstateLists, ExposureRow, Ingress, Stranger}
 use Rattle.np_conns.proofs.ConnLemmas.{conns_of-agrees}
 use Rattle.np_conns.specs.declared.proto.Proto.TheVariants.{Tcp}
-use Rattle.np_exposure.specs.Prelude.{Four, PortSpot, SidedRequirement, can_be_assumed, choices_left, each_once, exposes, first_stranger, mentions, negated, row_of, rows_at, rows_left, rows_of}
+use Rattle.np_exposure.specs.Prelude.{Four, PortSpot, SidedRequirement, bare_row, can_be_assumed, choices_left, each_once, exposes, first_stranger, mentions, negated, rows_at, rows_left, rows_of}
 use Rattle.np_fold.proofs.NamespaceLemmas.{labels_agree}
 use Rattle.np_fold.proofs.WorkloadLemmas.{one_workload}
-use Rattle.np_fold.specs.Prelude.{IsSameKind, keys_of_admin_policy, keys_of_baseline, keys_of_estate, keys_of_net_policy, keys_of_service, number_of}
+use Rattle.np_fold.specs.Prelude.{IsSameKind, keys_of_admin_policy, keys_of_baseline, keys_of_estate, keys_of_net_policy, keys_of_service, workload_number}
 use Rattle.np_kinds.proofs.KindPeers.{SamePod}
 use Rattle.np_kinds.proofs.KindRules.{SameContact}
 use Rattle.np_kinds.proofs.KindSides.{admin_places-same, base_places-same, net_places-same, net_selects-same}
@@ -27,13 +27,13 @@ use Rattle.np_rules.specs.Prelude.{Contact, PodSide, admin_places, base_places, 
 -- ---- sides that mention the same and expose alike
 
 module _ (a b : PodSide) (same : mentions a ≡ mentions b) (alike : (s : Stranger) (spot : PortSpot) → exposes a s spot ≡ exposes b s spot) where
-  row-same : (s : Stranger) → row_of a s ≡ row_of b s
+  row-same : (s : Stranger) → bare_row a s ≡ bare_row b s
   row-same s = ap (λ conns. record { requirements = []; conns = conns }) (conns_of-agrees (exposes a s) (exposes b s) (λ spot inside. alike s spot))
 
   left-same : (left assumed : List SidedRequirement) → rows_left a left assumed ≡ rows_left b left assumed
   unfolding rows_left
   left-same [] assumed =
-      ap (λ (row : ExposureRow). row ∷ []) (ap (λ (all : List SidedRequirement). row_of a (first_stranger (choices_left all assumed))) same ∙ row-same
+      ap (λ (row : ExposureRow). row ∷ []) (ap (λ (all : List SidedRequirement). bare_row a (first_stranger (choices_left all assumed))) same ∙ row-same
       (first_stranger (choices_left (mentions b) assumed)))
   left-same (asked ∷ left) assumed =
       ap (λ (all : List SidedRequirement). rows_at asked (can_be_assumed all (asked ∷ assumed)) (can_be_assumed all (negated asked ∷ assumed)) (rows_left a left (asked ∷ assumed))
@@ -86,7 +86,7 @@ pod-is : (lists : EstateLists) (p : ℕ) (a : Pod) → slice_get lists.pods p �
 pod-is lists p a is = ap (λ (found : Option Pod). option_map_or pod_end found no_pod) is
 
 module _ (lists : EstateLists) (p q : ℕ) (direction : Direction) (lawful : IsLawful lists) (p_in : p < length lists.pods) (q_in : q < length lists.pods)
-    (one : number_of lists p ≡ number_of lists q) where
+    (one : workload_number lists p ≡ workload_number lists q) where
   -- both pods are there
   there : ((a : Pod) × (slice_get lists.pods p ≡ Some a)) × ((b : Pod) × (slice_get lists.pods q ≡ Some b))
   there = (slice_get-some lists.pods p p_in, slice_get-some lists.pods q q_in)

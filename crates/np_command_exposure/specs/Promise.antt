@@ -2,7 +2,7 @@
 use Rattle.std.specs.Prelude.{◌≡◌, ◌≢◌, ◌<◌, ◌≤◌, ◌-◌, ◌^◌, ℕ, List, [], ◌∷◌, ◌++◌, Contains, flat_map, map, min, slice_index, true, None, Some, Option, Ok}
 use Rattle.np_command_exposure.specs.Types.{Direction, Egress, EstateLists, ExposureRow, Fault, Format, Ingress, RowText, Stranger, TooManyPatterns, UnknownEnd}
 use Rattle.np_command.specs.Prelude.{SinkTrace, TookWhole, lists_of}
-use Rattle.np_command_exposure.specs.Report.{row_text}
+use Rattle.np_command_exposure.specs.Report.{exposure_row_text}
 use Rattle.np_exposure.specs.Prelude.{FirstRowTells, IsEachFirst, is_hypothetical, mentions, weight}
 use Rattle.np_exposure.specs.declared.exposures.TheConstants.{MOST_PATTERNS}
 use Rattle.np_fold.specs.Prelude.{Workload, workloads_of}
@@ -36,8 +36,8 @@ SaysWhatIsExposed lists side rows = IsEachFirst is_hypothetical rows
     × ((p : ℕ) (s : Stranger) → Contains side.workload.members p → is_hypothetical s ≡ true → FirstRowTells (side_of lists p side.direction) rows s)
 
 -- the texts of the rows of a side
-abbrev pub texts_of : (WorkloadSide → List ExposureRow) → WorkloadSide → List RowText
-texts_of rows side = map (row_text side.workload.name side.direction) (rows side)
+abbrev pub texts_of_side : (WorkloadSide → List ExposureRow) → WorkloadSide → List RowText
+texts_of_side rows side = map (exposure_row_text side.workload.name side.direction) (rows side)
 
 -- The bytes of the inputs are those of an estate, and the sink took rows for each side that is asked for, which say what is
 -- exposed there.
@@ -49,7 +49,7 @@ pub record ExposesAll (out : SinkTrace) (workload : Option (List ℕ)) (format :
   pub asked : AreAsked lists workload sides
   pub few : (side : WorkloadSide) → Contains sides side → weight_of lists side ≤ MOST_PATTERNS
   pub exposed : (side : WorkloadSide) → Contains sides side → SaysWhatIsExposed lists side (rows side)
-  pub printed : TookWhole out (report_text format (flat_map (texts_of rows) sides))
+  pub printed : TookWhole out (report_text format (flat_map (texts_of_side rows) sides))
 
 -- ---- refusals
 

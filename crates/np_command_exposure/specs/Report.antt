@@ -6,7 +6,7 @@ use Rattle.np_command_exposure.specs.Types.{Direction, Egress, EstateLists, Expo
 use Rattle.np_conns.specs.Prelude.{conns_text, has_spot}
 use Rattle.np_exposure.specs.Prelude.{mentions, peer_text, rows_of, weight}
 use Rattle.np_exposure.specs.declared.exposures.TheConstants.{MOST_PATTERNS}
-use Rattle.np_fold.specs.Prelude.{folding_of, name_of, number_named}
+use Rattle.np_fold.specs.Prelude.{folding_of, name_of_workload, number_named}
 use Rattle.np_report.specs.Prelude.{report_text}
 use Rattle.np_rules.specs.Prelude.{PodSide, side_of}
 use Rattle.np_kinds.specs.Prelude.{number_of_workloads, source_pod}
@@ -36,7 +36,7 @@ weight_at lists shown = weight (mentions (pod_side lists shown))
 unfoldable pub weight_fault : EstateLists → ShownSide → Option Fault
 weight_fault lists shown =
     if nat_lt MOST_PATTERNS (weight_at lists shown)
-    then Some (TooManyPatterns (name_of (folding_of lists) shown.workload) shown.direction (min (weight_at lists shown) (2 ^ 64 - 1)))
+    then Some (TooManyPatterns (name_of_workload (folding_of lists) shown.workload) shown.direction (min (weight_at lists shown) (2 ^ 64 - 1)))
     else None
 
 -- the first fault of some sides
@@ -51,13 +51,13 @@ first_fault lists (shown ∷ others) = or_later (weight_fault lists shown) (firs
 -- ---- text
 
 -- A row of a side: those that the workload is sent by stand before it, and those that it sends to behind it.
-abbrev pub row_text : List ℕ → Direction → ExposureRow → RowText
-row_text name Ingress row = record { source = peer_text row.requirements; destination = name; connections = conns_text (has_spot row.conns) }
-row_text name Egress row = record { source = name; destination = peer_text row.requirements; connections = conns_text (has_spot row.conns) }
+abbrev pub exposure_row_text : List ℕ → Direction → ExposureRow → RowText
+exposure_row_text name Ingress row = record { source = peer_text row.requirements; destination = name; connections = conns_text (has_spot row.conns) }
+exposure_row_text name Egress row = record { source = name; destination = peer_text row.requirements; connections = conns_text (has_spot row.conns) }
 
 -- the rows of a side
 unfoldable pub side_rows : EstateLists → ShownSide → List RowText
-side_rows lists shown = map (row_text (name_of (folding_of lists) shown.workload) shown.direction) (rows_of (pod_side lists shown))
+side_rows lists shown = map (exposure_row_text (name_of_workload (folding_of lists) shown.workload) shown.direction) (rows_of (pod_side lists shown))
 
 -- the text of the rows of some sides, in a format
 unfoldable pub exposure_text : Format → EstateLists → List ShownSide → List ℕ

@@ -199,7 +199,7 @@ fn row_texts(
     direction: Direction,
     rows: &[ExposureRow],
 ) -> Result<Seq<RowText>, NoMemory>
-    ensures { IfOk result (λ texts. texts ≡ map (spec.row_text name.now direction) rows.now) }
+    ensures { IfOk result (λ texts. texts ≡ map (spec.exposure_row_text name.now direction) rows.now) }
 {
     let mut texts = Seq::new(alloc);
     for row in rows {
@@ -215,7 +215,7 @@ fn row_text(
     direction: Direction,
     row: &ExposureRow,
 ) -> Result<RowText, NoMemory>
-    ensures { IfOk result (λ text. text ≡ spec.row_text name.now direction row.now) }
+    ensures { IfOk result (λ text. text ≡ spec.exposure_row_text name.now direction row.now) }
 {
     let peer = print_peer(alloc, row)?;
     let name = Text::of(alloc, name)?;

@@ -4,9 +4,9 @@ use Rattle.std.specs.List.{filter_map, list_all, range_with_len, slice_get}
 use Rattle.std.specs.Option.{option_and_then, option_map_or}
 use Rattle.std.specs.Prelude.{AllPairs, IsPermutation}
 use Rattle.np_base.proofs.Lists.{count-none}
-use Rattle.np_owners.specs.Prelude.{first_in_cycle, makes_pod, owner_place, places, up, ups}
+use Rattle.np_owners.specs.Prelude.{first_in_cycle, makes_pod, owner_place, places_of_owners, up, ups}
 use Rattle.np_owners.proofs.Owned.{owns_itself-none}
-use Rattle.np_reading.specs.Prelude.{admin_policies_of, admin_policy, base_policy, baseline_of, count_left_out, estate_of, estate_of_items, first_equal, first_of, ingresses_from, ingresses_of, is_for, is_left_out, left_out, net_policies_of, net_policy, notes_of, pods_from, pods_of, ranks_of, service, services_of, with_admin, with_rank}
+use Rattle.np_reading.specs.Prelude.{admin_policies_of, admin_policy_in, base_policy_in, baseline_of, count_left_out, estate_of, estate_of_items, first_equal, first_item, ingresses_from, ingresses_of, is_for, is_left_out, left_out, net_policies_of, net_policy_in, notes_of, pods_from, pods_of, ranks_of, service_in, services_of, with_admin, with_rank}
 use Rattle.np_model.specs.declared.notes.Notes.{Notes}
 use Rattle.np_reading.proofs.OnceLemmas.{net_policies-once}
 use Rattle.np_reading.proofs.EstateLemmas.{estate_of-read, same-notes}
@@ -37,7 +37,7 @@ none-up items (one ∷ policies) zero = refl
 none-up items (one ∷ policies) (suc place) = none-up items policies place
 
 no-cycle : (policies : List NetPolicy) → first_in_cycle (net_items policies) ≡ None
-no-cycle policies = let items = net_items policies in rw (owns_itself-none (ups items) (none-up items policies) (places (ups items))) refl
+no-cycle policies = let items = net_items policies in rw (owns_itself-none (ups items) (none-up items policies) (places_of_owners (ups items))) refl
 
 -- ---- notes
 
@@ -54,13 +54,13 @@ none-left_out policies why =
 -- ---- the whole
 
 no-admins : (policies : List NetPolicy) → admin_policies_of (net_items policies) ≡ []
-no-admins policies = ap (λ found. map (λ entry. entry.1) (fold with_admin [] found)) (nothing-given admin_policy (λ one. refl) policies)
+no-admins policies = ap (λ found. map (λ entry. entry.1) (fold with_admin [] found)) (nothing-given admin_policy_in (λ one. refl) policies)
 
 no-ranks : (policies : List NetPolicy) → first_equal (ranks_of (net_items policies)) ≡ None
-no-ranks policies = ap (λ found. first_equal (map (λ entry. entry.0) (fold with_rank [] found))) (nothing-given admin_policy (λ one. refl) policies)
+no-ranks policies = ap (λ found. first_equal (map (λ entry. entry.0) (fold with_rank [] found))) (nothing-given admin_policy_in (λ one. refl) policies)
 
 no-baseline : (policies : List NetPolicy) → baseline_of (net_items policies) ≡ None
-no-baseline policies = ap first_of (nothing-given base_policy (λ one. refl) policies)
+no-baseline policies = ap first_item (nothing-given base_policy_in (λ one. refl) policies)
 
 no-notes : (policies : List NetPolicy) → notes_of (net_items policies) ≡ record { host = 0; finished = 0; skipped = 0; unaddressed = 0 }
 no-notes policies =
@@ -73,10 +73,10 @@ same-lists items notes counted pods admins baseline services ingresses = rw (cou
 
 lists-are : (policies : List NetPolicy) → estate_of_items (net_items policies) ≡ estate_with policies
 lists-are policies =
-    same-lists (net_items policies) _ (no-notes policies) (no-pods (net_items policies) 0 policies) (no-admins policies) (no-baseline policies) (nothing-given service (λ one. refl) policies)
+    same-lists (net_items policies) _ (no-notes policies) (no-pods (net_items policies) 0 policies) (no-admins policies) (no-baseline policies) (nothing-given service_in (λ one. refl) policies)
     (no-ingresses 1 policies)
 
-nets-given : (policies : List NetPolicy) → filter_map net_policy (net_items policies) ≡ policies
+nets-given : (policies : List NetPolicy) → filter_map net_policy_in (net_items policies) ≡ policies
 nets-given [] = refl
 nets-given (one ∷ policies) = ap (λ (rest : List NetPolicy). one ∷ rest) (nets-given policies)
 

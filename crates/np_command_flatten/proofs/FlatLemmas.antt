@@ -190,7 +190,7 @@ module _ (lists : EstateLists) (well : is_well lists ≡ true) where
   selector-printable : (group : ℕ) → group < group_count lists → is_well_selector (group_selector lists group) ≡ true
   selector-printable group within =
       let both = requirements-well (first_end lists (first_of_group lists group)).labels (relevant lists) (group-end group within).1 (relevant-keys lists well) in
-      and_from (labels.is_well_selector (group_selector lists group)) _ both.0 both.1
+      and_from (labels.has_well_requirements (group_selector lists group)) _ both.0 both.1
 
   peer-printable : (group : ℕ) → group < group_count lists → is_printable_peer (group_peer lists group) ≡ true
   peer-printable group within =

@@ -9,10 +9,10 @@ use Rattle.std.specs.List.{AllByRecursion, list_all, position_from}
 use Rattle.std.specs.Prelude.{AllPairs}
 use Rattle.std.specs.Str.{bytes_eq}
 use Rattle.np_base.proofs.Lists.{AllPairs-head, AllPairs-tail}
-use Rattle.np_items.specs.Prelude.{each_item, input_values, items_by, items_in, items_of, json_of, must_be_few}
+use Rattle.np_items.specs.Prelude.{input_values, items_by, items_from, items_in, items_of, json_of, must_be_few}
 use Rattle.np_command_flatten.specs.Prelude.{AreApart, Item, NetPolicy, is_printable, net_item, net_items}
 use Rattle.np_items.proofs.InputLemmas.{values-items_of}
-use Rattle.np_owners.specs.Prelude.{first_repeat, is_named, place_of, repeat_after, repeated}
+use Rattle.np_owners.specs.Prelude.{first_repeat, is_item_named, place_of, repeat_after, repeated}
 use Rattle.np_owners.specs.declared.object_name.ObjectName.{ObjectName}
 use Rattle.np_manifests.specs.Lists.{list_data}
 use Rattle.np_manifests.specs.Manifests as manifests
@@ -20,7 +20,7 @@ use Rattle.np_command_flatten.proofs.PolicyReads.{item-read}
 
 -- ---- reading
 
-each-policy : (policies : List NetPolicy) → list_all is_printable policies ≡ true → (number : ℕ) → each_item number (map manifests.policy policies) ≡ Ok (net_items policies)
+each-policy : (policies : List NetPolicy) → list_all is_printable policies ≡ true → (number : ℕ) → items_from number (map manifests.policy policies) ≡ Ok (net_items policies)
 each-policy [] all number = refl
 each-policy (one ∷ policies) all number =
     let parts = and_parts (is_printable one) (list_all is_printable policies) all in
@@ -58,13 +58,13 @@ AllBefore earlier one = AllByRecursion (λ before. AreApart before one) earlier
 abbrev name_of_net : NetPolicy → ObjectName
 name_of_net one = record { kind = codes "NetworkPolicy"; namespace = one.namespace; name = one.name }
 
-not-named : (one : NetPolicy) (from : ℕ) (earlier : List NetPolicy) → AllBefore earlier one → position_from (is_named (name_of_net one)) from (net_items earlier) ≡ None
+not-named : (one : NetPolicy) (from : ℕ) (earlier : List NetPolicy) → AllBefore earlier one → position_from (is_item_named (name_of_net one)) from (net_items earlier) ≡ None
 not-named one from [] all = refl
 not-named one from (before ∷ earlier) all = rw (apart-turned before one all.0) (not-named one (from + 1) earlier all.1)
 
 not-repeated : (earlier : List NetPolicy) (one : NetPolicy) → AllBefore earlier one → repeated (net_items earlier) (net_item one) ≡ None
 not-repeated earlier one all =
-    let nowhere : place_of (net_items earlier) (name_of_net one) ≡ None = position_from-zero (is_named (name_of_net one)) (net_items earlier) ∙ not-named one 0 earlier all in
+    let nowhere : place_of (net_items earlier) (name_of_net one) ≡ None = position_from-zero (is_item_named (name_of_net one)) (net_items earlier) ∙ not-named one 0 earlier all in
     rw nowhere refl
 
 -- ---- one after another

@@ -42,7 +42,7 @@ requirements-keys (one ∷ all) words =
     and_from (is_whole_word one.key) _ (and_parts (is_whole_word one.key) (list_all is_word one.values) parts.0).0 (requirements-keys all parts.1)
 
 selector-keys : (selector : Selector) → is_well_selector selector ≡ true → AreKeys (keys_of_selector selector)
-selector-keys selector well = requirements-keys selector.requirements (and_parts (labels.is_well_selector selector) (list_all is_worded selector.requirements) well).1
+selector-keys selector well = requirements-keys selector.requirements (and_parts (labels.has_well_requirements selector) (list_all is_worded selector.requirements) well).1
 
 optional-keys : (selector : Option Selector) → option_all is_well_selector selector ≡ true → AreKeys (keys_of_optional selector)
 optional-keys None well = refl
@@ -115,21 +115,21 @@ baseline-keys (Some policy) well =
 
 -- ---- services
 
-service_requirements-keys : (all : List Requirement) → list_all objects.is_well_requirement all ≡ true → AreKeys (map (λ one. one.key) all)
+service_requirements-keys : (all : List Requirement) → list_all objects.is_worded_requirement all ≡ true → AreKeys (map (λ one. one.key) all)
 service_requirements-keys [] well = refl
 service_requirements-keys (one ∷ all) well =
-    let parts = and_parts (objects.is_well_requirement one) (list_all objects.is_well_requirement all) well in
+    let parts = and_parts (objects.is_worded_requirement one) (list_all objects.is_worded_requirement all) well in
     let words = and_parts (is_whole_word one.key && list_all is_word one.values) (labels.is_well_requirement one) parts.0 in
     and_from (is_whole_word one.key) _ (and_parts (is_whole_word one.key) (list_all is_word one.values) words.0).0 (service_requirements-keys all parts.1)
 
-service_selector-keys : (selector : Option Selector) → objects.option_all objects.is_well_selector selector ≡ true → AreKeys (keys_of_optional selector)
+service_selector-keys : (selector : Option Selector) → objects.option_all objects.is_worded_selector selector ≡ true → AreKeys (keys_of_optional selector)
 service_selector-keys None well = refl
 service_selector-keys (Some selector) well = service_requirements-keys selector.requirements well
 
 service-keys : (service : ServiceItem) → objects.is_well_service service ≡ true → AreKeys (keys_of_service service)
 service-keys service well =
     let ports = and_parts _ (list_all objects.is_well_service_port service.ports) well in
-    service_selector-keys service.selector (and_parts _ (objects.option_all objects.is_well_selector service.selector) ports.0).1
+    service_selector-keys service.selector (and_parts _ (objects.option_all objects.is_worded_selector service.selector) ports.0).1
 
 -- ---- the whole
 

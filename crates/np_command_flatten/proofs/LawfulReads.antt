@@ -10,7 +10,7 @@ use Rattle.np_reading.specs.Prelude.{estate_of, or_refused}
 use Rattle.np_command_flatten.specs.Prelude.{EstateLists, Item}
 use Rattle.np_reading.proofs.LawfulReading.{estate_of_items-lawful}
 use Rattle.np_reading.proofs.ReadingLemmas.{estate_of-passed}
-use Rattle.np_items.specs.Prelude.{IsWellItem, Reading, all_values, each_item, item_of, items_of, must_be_few, must_be_no_list, numbered, policy_or_object}
+use Rattle.np_items.specs.Prelude.{IsWellItem, ItemsReading, all_values, item_of, items_from, items_of, must_be_few, must_be_no_list, numbered, policy_or_object}
 use Rattle.np_items.specs.declared.fault.ItemsFault.TheVariants.{TooManyItems}
 use Rattle.np_items.specs.declared.item.Item.TheVariants as item
 use Rattle.np_json.specs.Prelude.{Read, ◌>>◌}
@@ -44,17 +44,17 @@ item-well number value one is =
     by None reads made = object-well number value one made
     by (Some policy) reads made = let same : item.Policy policy ≡ one = cc in subst IsWellItem same (policy-well value policy reads)
 
-each-well : (number : ℕ) (values : List Data) (items : List Item) → each_item number values ≡ Ok items → AllByRecursion IsWellItem items × (length items ≡ length values)
+each-well : (number : ℕ) (values : List Data) (items : List Item) → items_from number values ≡ Ok items → AllByRecursion IsWellItem items × (length items ≡ length values)
 each-well number [] items is = let same : [] ≡ items = cc in subst (λ (all : List Item). AllByRecursion IsWellItem all × (length all ≡ 0)) same (tt, refl)
 each-well number (value ∷ values) items is =
     let here = bind-output (item_of number value) _ items is in
-    let rest = bind-output (each_item (number + 1) values) (λ more. Ok (here.first ∷ more)) items here.after in
+    let rest = bind-output (items_from (number + 1) values) (λ more. Ok (here.first ∷ more)) items here.after in
     let well = each-well (number + 1) values rest.first rest.here in
     let made = rest.after in
     let same : here.first ∷ rest.first ≡ items = cc in
     subst (λ (all : List Item). AllByRecursion IsWellItem all × (length all ≡ length (value ∷ values))) same ((item-well number value here.first here.here, well.0), ap suc well.1)
 
-few-values : (count : ℕ) (next : Reading (List Item)) (items : List Item) → (must_be_few count >> next) ≡ Ok items → count ≤ 20000
+few-values : (count : ℕ) (next : ItemsReading (List Item)) (items : List Item) → (must_be_few count >> next) ≡ Ok items → count ≤ 20000
 unfolding must_be_few
 few-values count next items is =
     elim (cases_Bool (nat_le count 20000)) [
@@ -66,12 +66,12 @@ items-well : (texts : List (List ℕ)) (items : List Item) → items_of texts �
 unfolding items_of
 items-well texts items is =
     let values = bind-output (all_values texts) _ items is in
-    let each = each-well 1 values.first items (then-output (must_be_few (length values.first)) (each_item 1 values.first) items values.after) in
-    (each.0, rw each.1 (few-values (length values.first) (each_item 1 values.first) items values.after))
+    let each = each-well 1 values.first items (then-output (must_be_few (length values.first)) (items_from 1 values.first) items values.after) in
+    (each.0, rw each.1 (few-values (length values.first) (items_from 1 values.first) items values.after))
 
 -- ---- the estate
 
-accepted : (read : Reading (List Item)) (items : List Item) → or_refused read ≡ Ok items → read ≡ Ok items
+accepted : (read : ItemsReading (List Item)) (items : List Item) → or_refused read ≡ Ok items → read ≡ Ok items
 accepted (Ok found) items is = let same : found ≡ items = cc in ap Ok same
 accepted (Err fault) items is = cc
 

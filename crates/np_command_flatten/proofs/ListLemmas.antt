@@ -10,7 +10,7 @@ use Rattle.serde_json.specs.Written.{compact_text, items_text}
 use Rattle.np_written.specs.Values.{object_with, list_with}
 use Rattle.np_items.specs.Prelude.{json_of}
 use Rattle.np_command_flatten.specs.Prelude.{NetPolicy, is_printable}
-use Rattle.np_manifests.specs.Lists.{list_data, list_line, list_text, policy_text}
+use Rattle.np_manifests.specs.Lists.{list_data, list_line, manifest_text, policy_text}
 use Rattle.np_manifests.specs.Manifests as manifests
 use Rattle.np_command_flatten.proofs.LineLemmas.{tokens-line}
 use Rattle.np_command_flatten.proofs.PrintedLemmas.{policy-readable}
@@ -26,14 +26,14 @@ list_data-readable policies all =
     (all-passed is_printable (λ one. IsReadable 10 (manifests.policy one)) policy-readable policies all)) in
     object-readable 11 entries refl (string-readable 11 (codes "v1") (IsUtf8-are_ascii _ refl), (items, (string-readable 11 (codes "List") (IsUtf8-are_ascii _ refl), tt)))
 
-pub json_of-list_text : (policies : List NetPolicy) → list_all is_printable policies ≡ true → json_of (list_text policies) ≡ Some (list_data policies)
-unfolding list_text
+pub json_of-list_text : (policies : List NetPolicy) → list_all is_printable policies ≡ true → json_of (manifest_text policies) ≡ Some (list_data policies)
+unfolding manifest_text
 json_of-list_text policies all =
     let readable = list_data-readable policies all in
     json_of-same_tokens 12 (list_data policies) (compact_text (list_data policies)) (omega arith) readable readable.utf8 refl
 
 pub json_of-list_line : (policies : List NetPolicy) → list_all is_printable policies ≡ true → json_of (list_line policies) ≡ Some (list_data policies)
-unfolding list_text
+unfolding manifest_text
 json_of-list_line policies all =
     let value = list_data policies in
     let readable = list_data-readable policies all in
@@ -56,8 +56,8 @@ list-spelled : (values : List Data) → compact_text (object_with ((codes "apiVe
 unfolding escape_byte
 list-spelled values = refl
 
-pub list_text-joined : (policies : List NetPolicy) → list_text policies ≡ codes "{\"apiVersion\":\"v1\",\"items\":[" ++ join_by policy_text (codes ",") policies ++ codes "],\"kind\":\"List\"}"
-unfolding list_text policy_text
+pub list_text-joined : (policies : List NetPolicy) → manifest_text policies ≡ codes "{\"apiVersion\":\"v1\",\"items\":[" ++ join_by policy_text (codes ",") policies ++ codes "],\"kind\":\"List\"}"
+unfolding manifest_text policy_text
 list_text-joined policies =
     let front = codes "{\"apiVersion\":\"v1\",\"items\":[" in
     let joined = join_by (λ one. compact_text (manifests.policy one)) (codes ",") policies in

@@ -53,8 +53,8 @@ unfolding policy_type
 type-read Ingress = refl
 type-read Egress = refl
 
-rules-read : (direction : Direction) (all : List NetRule) → list_all is_printable_rule all ≡ true → AllByRecursion (λ rule. net_rule direction (manifests.rule direction rule) ≡ Ok rule) all
-rules-read direction all is = all-passed is_printable_rule (λ rule. net_rule direction (manifests.rule direction rule) ≡ Ok rule) (rule-read direction) all is
+rules-read : (direction : Direction) (all : List NetRule) → list_all is_printable_rule all ≡ true → AllByRecursion (λ rule. net_rule direction (manifests.rule_data direction rule) ≡ Ok rule) all
+rules-read direction all is = all-passed is_printable_rule (λ rule. net_rule direction (manifests.rule_data direction rule) ≡ Ok rule) (rule-read direction) all is
 
 abbrev policy_with : NetPolicy → Option (List NetRule) → Option (List NetRule) → NetPolicy
 policy_with one ingress egress = record { namespace = one.namespace; name = one.name; subject = one.subject; ingress = ingress; egress = egress }
@@ -68,26 +68,26 @@ spec-read one None None subject some first second = cc
 spec-read one (Some ingress) None subject some first second =
     let value = manifests.spec (policy_with one (Some ingress) None) in
     rw (
-      optional-read (codes "podSelector") selector value (manifests.selector one.subject) one.subject refl (selector-read one.subject subject),
+      optional-read (codes "podSelector") selector value (manifests.selector_data one.subject) one.subject refl (selector-read one.subject subject),
       listed-read (codes "policyTypes") policy_type type_name value (Ingress ∷ []) refl (type-read Ingress, tt),
-      listed-read (codes "ingress") (net_rule Ingress) (manifests.rule Ingress) value ingress refl (rules-read Ingress ingress first),
+      listed-read (codes "ingress") (net_rule Ingress) (manifests.rule_data Ingress) value ingress refl (rules-read Ingress ingress first),
       listed-none (codes "egress") (net_rule Egress) value refl,
     ) refl
 spec-read one None (Some egress) subject some first second =
     let value = manifests.spec (policy_with one None (Some egress)) in
     rw (
-      optional-read (codes "podSelector") selector value (manifests.selector one.subject) one.subject refl (selector-read one.subject subject),
+      optional-read (codes "podSelector") selector value (manifests.selector_data one.subject) one.subject refl (selector-read one.subject subject),
       listed-read (codes "policyTypes") policy_type type_name value (Egress ∷ []) refl (type-read Egress, tt),
       listed-none (codes "ingress") (net_rule Ingress) value refl,
-      listed-read (codes "egress") (net_rule Egress) (manifests.rule Egress) value egress refl (rules-read Egress egress second),
+      listed-read (codes "egress") (net_rule Egress) (manifests.rule_data Egress) value egress refl (rules-read Egress egress second),
     ) refl
 spec-read one (Some ingress) (Some egress) subject some first second =
     let value = manifests.spec (policy_with one (Some ingress) (Some egress)) in
     rw (
-      optional-read (codes "podSelector") selector value (manifests.selector one.subject) one.subject refl (selector-read one.subject subject),
+      optional-read (codes "podSelector") selector value (manifests.selector_data one.subject) one.subject refl (selector-read one.subject subject),
       listed-read (codes "policyTypes") policy_type type_name value (Ingress ∷ Egress ∷ []) refl (type-read Ingress, (type-read Egress, tt)),
-      listed-read (codes "ingress") (net_rule Ingress) (manifests.rule Ingress) value ingress refl (rules-read Ingress ingress first),
-      listed-read (codes "egress") (net_rule Egress) (manifests.rule Egress) value egress refl (rules-read Egress egress second),
+      listed-read (codes "ingress") (net_rule Ingress) (manifests.rule_data Ingress) value ingress refl (rules-read Ingress ingress first),
+      listed-read (codes "egress") (net_rule Egress) (manifests.rule_data Egress) value egress refl (rules-read Egress egress second),
     ) refl
 
 -- the policy of a name, and of a spec with these directions

@@ -4,7 +4,7 @@ use Rattle.std.proofs.lemmas.Bool.{and_from, and_parts, cases_Bool, eq-eqb, or_l
 use Rattle.std.proofs.lemmas.List.Elements.{recursion_from_All}
 use Rattle.std.specs.List.{AllByRecursion, list_all}
 use Rattle.np_addr.proofs.RightPrefixes.{prefixes_of-right}
-use Rattle.np_addr.specs.Prelude.{AddressRanges, IsAddress, IsAddressSet, IsCidr, base_of, cidr_has, prefixes_of, set_has, some_has}
+use Rattle.np_addr.specs.Prelude.{AddressRanges, IsAddress, IsAddressSet, IsCidr, base_of, cidr_has, prefixes_of, set_has, some_block_has}
 use Rattle.np_command_flatten.specs.Prelude.{Address, Cidr, Four, Range, Six, is_printable_block}
 use Rattle.np_addr.specs.declared.address.Address.TheVariants as address
 use Rattle.np_addr.proofs.OnePrefixList.{base_is_in}
@@ -36,13 +36,13 @@ block-printable (Six base len) within well =
     (and_from (nat_le len 128) (base % 2 ^ (128 - len) == 0) (le-leb len 128 well.0) (eq-eqb (base % 2 ^ (128 - len)) 0 well.1))
 
 -- blocks whose addresses are all in a set
-blocks-printable : (set : AddressRanges) (blocks : List Cidr) → IsAddressSet set → AllByRecursion IsCidr blocks → ((a : Address) → some_has blocks a ≡ true → set_has set a ≡ true) →
+blocks-printable : (set : AddressRanges) (blocks : List Cidr) → IsAddressSet set → AllByRecursion IsCidr blocks → ((a : Address) → some_block_has blocks a ≡ true → set_has set a ≡ true) →
     list_all is_printable_block blocks ≡ true
 blocks-printable set [] well all within = refl
 blocks-printable set (block ∷ blocks) well all within =
-    let base = set-address set (base_of block) well (within (base_of block) (or_left (cidr_has block (base_of block)) (some_has blocks (base_of block)) (base_is_in block))) in
+    let base = set-address set (base_of block) well (within (base_of block) (or_left (cidr_has block (base_of block)) (some_block_has blocks (base_of block)) (base_is_in block))) in
     and_from (is_printable_block block) (list_all is_printable_block blocks) (block-printable block base all.0)
-    (blocks-printable set blocks well all.1 (λ a has. within a (or_right (cidr_has block a) (some_has blocks a) has)))
+    (blocks-printable set blocks well all.1 (λ a has. within a (or_right (cidr_has block a) (some_block_has blocks a) has)))
 
 pub prefixes-printable : (set : AddressRanges) → IsAddressSet set → list_all is_printable_block (prefixes_of set) ≡ true
 prefixes-printable set well =

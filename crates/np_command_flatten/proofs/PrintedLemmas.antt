@@ -52,7 +52,7 @@ expression-names : (of_key of_operator : Data) (values : List Data) → are_name
 expression-names of_key of_operator [] = refl
 expression-names of_key of_operator (value ∷ values) = refl
 
-expression-readable : (one : Requirement) → is_worded one ≡ true → IsReadable 2 (manifests.expression one)
+expression-readable : (one : Requirement) → is_worded one ≡ true → IsReadable 2 (manifests.expression_data one)
 expression-readable one words =
     let parts = and_parts (is_whole_word one.key) (list_all is_word one.values) words in
     let entries : List Entry = (codes "key", string one.key) ∷ (codes "operator", string (manifests.operator one.op)) ∷ if_some (codes "values") (map string one.values) in
@@ -65,11 +65,11 @@ selector-names : (values : List Data) → are_names (if_some (codes "matchExpres
 selector-names [] = refl
 selector-names (value ∷ values) = refl
 
-selector-readable : (one : Selector) → is_well_selector one ≡ true → IsReadable 4 (manifests.selector one)
+selector-readable : (one : Selector) → is_well_selector one ≡ true → IsReadable 4 (manifests.selector_data one)
 selector-readable one is =
-    let parts = and_parts (well.is_well_selector one) (list_all is_worded one.requirements) is in
-    object-readable 3 _ (selector-names (map manifests.expression one.requirements))
-    (some-readable 2 (codes "matchExpressions") is_worded manifests.expression expression-readable one.requirements parts.1)
+    let parts = and_parts (well.has_well_requirements one) (list_all is_worded one.requirements) is in
+    object-readable 3 _ (selector-names (map manifests.expression_data one.requirements))
+    (some-readable 2 (codes "matchExpressions") is_worded manifests.expression_data expression-readable one.requirements parts.1)
 
 -- ---- ports
 
@@ -95,7 +95,7 @@ span-readable of lo hi above most = object-readable 4 _ (names (lo == hi)) (ends
     ends true = first
     ends false = (number-readable 4 hi (omega arith), first)
 
-port-readable : (one : NetPort) → is_printable_port one ≡ true → IsReadable 5 (manifests.port one)
+port-readable : (one : NetPort) → is_printable_port one ≡ true → IsReadable 5 (manifests.port_data one)
 port-readable (Span of lo hi) is =
     let parts = and_parts (nat_le 1 lo && nat_le lo hi) (nat_le hi 65535) is in
     span-readable of lo hi (leb-true lo hi (and_parts (nat_le 1 lo) (nat_le lo hi) parts.0).1) (leb-true hi 65535 parts.1)
@@ -105,7 +105,7 @@ port-readable (Named of name) is =
 
 -- ---- peers
 
-block-readable : (most : ℕ) (one : Cidr) → is_printable_block one ≡ true → IsReadable most (manifests.block one)
+block-readable : (most : ℕ) (one : Cidr) → is_printable_block one ≡ true → IsReadable most (manifests.block_data one)
 block-readable most (cidr.Four base len) is = string-readable most _ (block-utf8 (cidr.Four base len) (let of = (block-well (cidr.Four base len) is).1 in omega arith))
 block-readable most (cidr.Six base len) is = string-readable most _ (block-utf8 (cidr.Six base len) (let of = (block-well (cidr.Six base len) is).1 in omega arith))
 
@@ -123,16 +123,16 @@ peer-readable : (one : NetPeer) → is_printable_peer one ≡ true → IsReadabl
 peer-readable (Pods namespaces pods) is =
     let second = and_parts _ (option_all is_well_selector pods) is in
     let first = and_parts (is_some namespaces || is_some pods) (option_all is_well_selector namespaces) second.0 in
-    object-readable 4 _ (pods-names (option_map manifests.selector namespaces) (option_map manifests.selector pods))
-    (entries-append 4 _ _ (given-readable 4 (codes "namespaceSelector") is_well_selector manifests.selector selector-readable namespaces first.1)
-    (given-readable 4 (codes "podSelector") is_well_selector manifests.selector selector-readable pods second.1))
+    object-readable 4 _ (pods-names (option_map manifests.selector_data namespaces) (option_map manifests.selector_data pods))
+    (entries-append 4 _ _ (given-readable 4 (codes "namespaceSelector") is_well_selector manifests.selector_data selector-readable namespaces first.1)
+    (given-readable 4 (codes "podSelector") is_well_selector manifests.selector_data selector-readable pods second.1))
 peer-readable (Block block excepts) is =
     let parts = and_parts (is_printable_block block && list_all is_printable_block excepts) (is_none (first_bad_except block excepts)) is in
     let blocks = and_parts (is_printable_block block) (list_all is_printable_block excepts) parts.0 in
-    let entries : List Entry = (codes "cidr", manifests.block block) ∷ if_some (codes "except") (map manifests.block excepts) in
-    let inner = object-readable 3 entries (block-names (manifests.block block) (map manifests.block excepts))
-    (block-readable 3 block blocks.0, some-readable 2 (codes "except") is_printable_block manifests.block (block-readable 2) excepts blocks.1) in
-    object-readable 4 ((codes "ipBlock", manifests.ip_block block excepts) ∷ []) refl (inner, tt)
+    let entries : List Entry = (codes "cidr", manifests.block_data block) ∷ if_some (codes "except") (map manifests.block_data excepts) in
+    let inner = object-readable 3 entries (block-names (manifests.block_data block) (map manifests.block_data excepts))
+    (block-readable 3 block blocks.0, some-readable 2 (codes "except") is_printable_block manifests.block_data (block-readable 2) excepts blocks.1) in
+    object-readable 4 ((codes "ipBlock", manifests.ip_block_data block excepts) ∷ []) refl (inner, tt)
 
 -- ---- rules
 
@@ -148,7 +148,7 @@ to-names [] (port ∷ ports) = refl
 to-names (peer ∷ peers) [] = refl
 to-names (peer ∷ peers) (port ∷ ports) = refl
 
-rule-readable : (direction : Direction) (one : NetRule) → is_printable_rule one ≡ true → IsReadable 7 (manifests.rule direction one)
+rule-readable : (direction : Direction) (one : NetRule) → is_printable_rule one ≡ true → IsReadable 7 (manifests.rule_data direction one)
 rule-readable direction one is = by direction
   where
     parts : (list_all is_printable_peer one.peers ≡ true) × (list_all is_printable_port one.ports ≡ true)
@@ -157,15 +157,15 @@ rule-readable direction one is = by direction
     peers : (name : List ℕ) → AllReadable 6 (if_some name (map manifests.peer one.peers))
     peers name = some-readable 5 name is_printable_peer manifests.peer peer-readable one.peers parts.0
 
-    ports : AllReadable 6 (if_some (codes "ports") (map manifests.port one.ports))
-    ports = some-readable 5 (codes "ports") is_printable_port manifests.port port-readable one.ports parts.1
+    ports : AllReadable 6 (if_some (codes "ports") (map manifests.port_data one.ports))
+    ports = some-readable 5 (codes "ports") is_printable_port manifests.port_data port-readable one.ports parts.1
 
-    by : (d : Direction) → IsReadable 7 (manifests.rule d one)
-    by Ingress = object-readable 6 _ (from-names (map manifests.peer one.peers) (map manifests.port one.ports)) (entries-append 6 _ _ (peers (codes "from")) ports)
-    by Egress = object-readable 6 _ (to-names (map manifests.peer one.peers) (map manifests.port one.ports)) (entries-append 6 _ _ ports (peers (codes "to")))
+    by : (d : Direction) → IsReadable 7 (manifests.rule_data d one)
+    by Ingress = object-readable 6 _ (from-names (map manifests.peer one.peers) (map manifests.port_data one.ports)) (entries-append 6 _ _ (peers (codes "from")) ports)
+    by Egress = object-readable 6 _ (to-names (map manifests.peer one.peers) (map manifests.port_data one.ports)) (entries-append 6 _ _ ports (peers (codes "to")))
 
 rules-readable : (direction : Direction) (all : List NetRule) → list_all is_printable_rule all ≡ true → IsReadable 8 (manifests.rules direction all)
-rules-readable direction all is = mapped-readable 7 is_printable_rule (manifests.rule direction) (rule-readable direction) all is
+rules-readable direction all is = mapped-readable 7 is_printable_rule (manifests.rule_data direction) (rule-readable direction) all is
 
 -- ---- policies
 
@@ -197,8 +197,8 @@ policy-readable one is =
     let names = and_parts (is_name one.namespace) (is_name one.name) subject.0 in
     let of_egress = given-readable 8 (codes "egress") (λ all. list_all is_printable_rule all) (manifests.rules Egress) (rules-readable Egress) one.egress egress.1 in
     let of_ingress = given-readable 8 (codes "ingress") (λ all. list_all is_printable_rule all) (manifests.rules Ingress) (rules-readable Ingress) one.ingress ingress.1 in
-    let of_subject = deeper 4 8 (manifests.selector one.subject) (omega arith) (selector-readable one.subject subject.1) in
-    let spec = object-readable 8 _ (spec-names (option_map (manifests.rules Egress) one.egress) (option_map (manifests.rules Ingress) one.ingress) (manifests.selector one.subject)
+    let of_subject = deeper 4 8 (manifests.selector_data one.subject) (omega arith) (selector-readable one.subject subject.1) in
+    let spec = object-readable 8 _ (spec-names (option_map (manifests.rules Egress) one.egress) (option_map (manifests.rules Ingress) one.ingress) (manifests.selector_data one.subject)
     (manifests.types one))
     (entries-append 8 (if_given (codes "egress") (option_map (manifests.rules Egress) one.egress) ++ if_given (codes "ingress") (option_map (manifests.rules Ingress) one.ingress)) _
     (entries-append 8 _ _ of_egress of_ingress) (of_subject, (types-readable (is_some one.ingress) (is_some one.egress), tt))) in

@@ -12,7 +12,7 @@ use Rattle.np_command.specs.declared.fault.Fault.TheVariants as fault
 use Rattle.np_command_flatten.proofs.FlattenLemmas.{fault-workloads}
 use Rattle.np_conns.specs.Prelude.{is_spot}
 use Rattle.np_fold.proofs.WorkloadLemmas.{number-in_workloads, one_workload, pods-ascend}
-use Rattle.np_fold.specs.Prelude.{Folding, folding_of, members_of, name_of, number_of}
+use Rattle.np_fold.specs.Prelude.{Folding, folding_of, members_of, name_of_workload, workload_number}
 use Rattle.np_model.specs.Prelude.{IsLawful, families_of}
 use Rattle.np_model.specs.declared.pod.Pod.{Pod}
 use Rattle.np_rules.specs.Prelude.{no_pod, pod_at, pod_end}
@@ -31,12 +31,12 @@ use Rattle.np_table.specs.declared.rows.AddressRow.{AddressRow}
 
 -- ---- pods of workloads
 
-number-within : (lists : EstateLists) (p : ℕ) → p < length lists.pods → number_of lists p < number_of_workloads lists
+number-within : (lists : EstateLists) (p : ℕ) → p < length lists.pods → workload_number lists p < number_of_workloads lists
 unfolding folding_of
 number-within lists p within = number-in_workloads lists p within
 
 -- the first pod of a workload is one of the estate, and of the workload
-first-pod : (lists : EstateLists) (a : ℕ) → a < number_of_workloads lists → (source_pod (folding_of lists) a < length lists.pods) × (number_of lists (source_pod (folding_of lists) a) ≡ a)
+first-pod : (lists : EstateLists) (a : ℕ) → a < number_of_workloads lists → (source_pod (folding_of lists) a < length lists.pods) × (workload_number lists (source_pod (folding_of lists) a) ≡ a)
 first-pod lists a a_in =
     let folding = folding_of lists in
     let has = source-member folding a (members-some lists folding a refl a_in) in
@@ -59,8 +59,8 @@ two-members folding a sorted some alone same =
 record StandFor (lists : EstateLists) (a b p q : ℕ) : Type 0 where
   p_in : p < length lists.pods
   q_in : q < length lists.pods
-  p_of : number_of lists p ≡ a
-  q_of : number_of lists q ≡ b
+  p_of : workload_number lists p ≡ a
+  q_of : workload_number lists q ≡ b
   apart : p ≢ q
 
 -- those that stand for workloads between which something is defined are such
@@ -83,19 +83,19 @@ stand-for lists a b a_in b_in alone =
         subst (λ (n : ℕ). is_alone (folding_of lists) a n ≡ false → source_pod (folding_of lists) a ≢ destination_pod (folding_of lists) a n) same
         (two-members (folding_of lists) a (pods-ascend lists a) (members-some lists (folding_of lists) a refl a_in)) lonely
 
-    differ : number_of lists (source_pod (folding_of lists) a) ≡ a → number_of lists (destination_pod (folding_of lists) a b) ≡ b →
+    differ : workload_number lists (source_pod (folding_of lists) a) ≡ a → workload_number lists (destination_pod (folding_of lists) a b) ≡ b →
         source_pod (folding_of lists) a ≢ destination_pod (folding_of lists) a b
     differ p_of q_of =
         elim (cases_eq a b) [
           | inl same ↦ itself b same alone
-          | inr other ↦ λ one. other (sym p_of ∙ ap (number_of lists) one ∙ q_of)
+          | inr other ↦ λ one. other (sym p_of ∙ ap (workload_number lists) one ∙ q_of)
         ]
 
 -- another pod of a workload that has two
-another : (lists : EstateLists) (p : ℕ) → p < length lists.pods → is_defined lists (number_of lists p) (number_of lists p) ≡ true →
-    (r : ℕ) × (r < length lists.pods) × (number_of lists r ≡ number_of lists p) × (r ≢ p)
+another : (lists : EstateLists) (p : ℕ) → p < length lists.pods → is_defined lists (workload_number lists p) (workload_number lists p) ≡ true →
+    (r : ℕ) × (r < length lists.pods) × (workload_number lists r ≡ workload_number lists p) × (r ≢ p)
 another lists p p_in defined =
-    let a = number_of lists p in
+    let a = workload_number lists p in
     let a_in = number-within lists p p_in in
     let stand = stand-for lists a a a_in a_in (not-true (is_alone (folding_of lists) a a) defined) in
     elim (cases_eq p (source_pod (folding_of lists) a)) [
@@ -108,29 +108,29 @@ another lists p p_in defined =
 module _ (lists : EstateLists) (lawful : IsLawful lists) where
   -- what passes between two pods passes between their workloads
   pair : (p q : ℕ) → AreTwoPods lists p q → (family : Family) (spot : PortSpot) →
-      between_pods lists p q family spot ≡ pair_allows lists (folding_of lists) (number_of lists p) (number_of lists q) family spot
+      between_pods lists p q family spot ≡ pair_allows lists (folding_of lists) (workload_number lists p) (workload_number lists q) family spot
   pair p q two family spot = between_pods-pair_allows lists p q family spot lawful two.0 two.1 two.2
 
-  pods-alike : (p q : ℕ) → AreTwoPods lists p q → FamiliesPassAlike lists (number_of lists p) (number_of lists q) → AreFamiliesAlike lists p q
+  pods-alike : (p q : ℕ) → AreTwoPods lists p q → FamiliesPassAlike lists (workload_number lists p) (workload_number lists q) → AreFamiliesAlike lists p q
   pods-alike p q two alike family other spot listed also =
       pair p q two family spot ∙ alike family other spot listed.0 also.0 listed.1 ∙ sym (pair p q two other spot)
 
-  workloads-alike : (p q : ℕ) → AreTwoPods lists p q → AreFamiliesAlike lists p q → FamiliesPassAlike lists (number_of lists p) (number_of lists q)
+  workloads-alike : (p q : ℕ) → AreTwoPods lists p q → AreFamiliesAlike lists p q → FamiliesPassAlike lists (workload_number lists p) (workload_number lists q)
   workloads-alike p q two alike family other spot has has' inside =
       sym (pair p q two family spot) ∙ alike family other spot (has, inside) (has', inside) ∙ pair p q two other spot
 
   -- the first two workloads between which the families differ
-  split-at : (p q : ℕ) → AreTwoPods lists p q → flat_fault lists ≡ Some (Split (number_of lists p) (number_of lists q)) →
-      RefusesFlatten lists (fault.Split (name_of (folding_of lists) (number_of lists p)) (name_of (folding_of lists) (number_of lists q)))
+  split-at : (p q : ℕ) → AreTwoPods lists p q → flat_fault lists ≡ Some (Split (workload_number lists p) (workload_number lists q)) →
+      RefusesFlatten lists (fault.Split (name_of_workload (folding_of lists) (workload_number lists p)) (name_of_workload (folding_of lists) (workload_number lists q)))
   split-at p q two is = record {
     p = p;
     q = q;
     source_is = refl;
     destination_is = refl;
     apart = two;
-    differ = λ alike. split_differs lists (number_of lists p) (number_of lists q) is (workloads-alike p q two alike);
+    differ = λ alike. split_differs lists (workload_number lists p) (workload_number lists q) is (workloads-alike p q two alike);
     first = λ r s other before. pods-alike r s other
-        (split_is_first lists (number_of lists p) (number_of lists q) is (number_of lists r) (number_of lists s) (number-within lists r other.0) (number-within lists s other.1) before);
+        (split_is_first lists (workload_number lists p) (workload_number lists q) is (workload_number lists r) (workload_number lists s) (number-within lists r other.0) (number-within lists s other.1) before);
   }
 
 -- ---- rows of addresses
@@ -177,30 +177,30 @@ first-listed lists = contains-first (families_of lists.pods) (families_cases lis
 -- ---- pods that selectors do not tell apart
 
 -- what selectors see of a pod is what they see of the first pod of its workload
-seen-pod : (lists : EstateLists) (p : ℕ) → p < length lists.pods → seen (relevant lists) (pod_at lists p) ≡ seen (relevant lists) (first_end lists (number_of lists p))
+seen-pod : (lists : EstateLists) (p : ℕ) → p < length lists.pods → seen (relevant lists) (pod_at lists p) ≡ seen (relevant lists) (first_end lists (workload_number lists p))
 seen-pod lists p p_in =
-    let (first_in, first_of) = first-pod lists (number_of lists p) (number-within lists p p_in) in
+    let (first_in, first_of) = first-pod lists (workload_number lists p) (number-within lists p p_in) in
     let (one, one_is) = pod_there lists p p_in in
-    let (other, other_is) = pod_there lists (source_pod (folding_of lists) (number_of lists p)) first_in in
-    let alike = (one_workload lists p (source_pod (folding_of lists) (number_of lists p)) one other one_is other_is).0 (sym first_of) in
+    let (other, other_is) = pod_there lists (source_pod (folding_of lists) (workload_number lists p)) first_in in
+    let alike = (one_workload lists p (source_pod (folding_of lists) (workload_number lists p)) one other one_is other_is).0 (sym first_of) in
     ap (λ (found : Option Pod). seen (relevant lists) (option_map_or pod_end found no_pod)) one_is
     ∙ (look_decides (relevant lists) (pod_end one) (pod_end other)).0 (kind-looks lists one other alike.kind)
     ∙ sym (ap (λ (found : Option Pod). seen (relevant lists) (option_map_or pod_end found no_pod)) other_is)
 
 -- so two pods look alike where their workloads are of one group
 module _ (lists : EstateLists) (p q : ℕ) (two : AreTwoPods lists p q) where
-  look-from : are_together lists (number_of lists p) (number_of lists q) ≡ true → look_alike (relevant lists) (pod_at lists p) (pod_at lists q) ≡ true
+  look-from : are_together lists (workload_number lists p) (workload_number lists q) ≡ true → look_alike (relevant lists) (pod_at lists p) (pod_at lists q) ≡ true
   unfolding are_together
   look-from together =
       (look_decides (relevant lists) (pod_at lists p) (pod_at lists q)).1
       (seen-pod lists p two.0
-      ∙ (look_decides (relevant lists) (first_end lists (number_of lists p)) (first_end lists (number_of lists q))).0 together
+      ∙ (look_decides (relevant lists) (first_end lists (workload_number lists p)) (first_end lists (workload_number lists q))).0 together
       ∙ sym (seen-pod lists q two.1))
 
-  look-to : look_alike (relevant lists) (pod_at lists p) (pod_at lists q) ≡ true → are_together lists (number_of lists p) (number_of lists q) ≡ true
+  look-to : look_alike (relevant lists) (pod_at lists p) (pod_at lists q) ≡ true → are_together lists (workload_number lists p) (workload_number lists q) ≡ true
   unfolding are_together
   look-to alike =
-      (look_decides (relevant lists) (first_end lists (number_of lists p)) (first_end lists (number_of lists q))).1
+      (look_decides (relevant lists) (first_end lists (workload_number lists p)) (first_end lists (workload_number lists q))).1
       (sym (seen-pod lists p two.0)
       ∙ (look_decides (relevant lists) (pod_at lists p) (pod_at lists q)).0 alike
       ∙ seen-pod lists q two.1)
@@ -211,29 +211,29 @@ turn : (lists : EstateLists) (p q : ℕ) → AreTwoPods lists p q → AreTwoPods
 turn lists p q two = (two.1, two.0, λ same. two.2 (sym same))
 
 -- two pods of one workload
-same-defined : (lists : EstateLists) (r s : ℕ) → AreTwoPods lists r s → number_of lists r ≡ number_of lists s → is_defined lists (number_of lists s) (number_of lists s) ≡ true
+same-defined : (lists : EstateLists) (r s : ℕ) → AreTwoPods lists r s → workload_number lists r ≡ workload_number lists s → is_defined lists (workload_number lists s) (workload_number lists s) ≡ true
 same-defined lists r s two same =
     let folding = folding_of lists in
-    let b = number_of lists s in
+    let b = workload_number lists s in
     ap not (not-alone folding b b r s (subst (λ (n : ℕ). Contains (members_of folding n) r) same (own-member lists r two.0)) (own-member lists s two.1) two.2)
 
-module _ (lists : EstateLists) (lawful : IsLawful lists) (p q : ℕ) (two : AreTwoPods lists p q) (other : number_of lists p ≢ number_of lists q) where
+module _ (lists : EstateLists) (lawful : IsLawful lists) (p q : ℕ) (two : AreTwoPods lists p q) (other : workload_number lists p ≢ workload_number lists q) where
   abbrev a : ℕ
-  a = number_of lists p
+  a = workload_number lists p
 
   abbrev b : ℕ
-  b = number_of lists q
+  b = workload_number lists q
 
   -- ---- by pods
 
-  sends-at : AreTreatedAlike lists p q → (r : ℕ) → AreTwoPods lists r p → AreTwoPods lists r q → PassTheSame lists a (number_of lists r) b (number_of lists r)
+  sends-at : AreTreatedAlike lists p q → (r : ℕ) → AreTwoPods lists r p → AreTwoPods lists r q → PassTheSame lists a (workload_number lists r) b (workload_number lists r)
   sends-at treated r with_p with_q spot inside =
       let family = family_of_list lists in
       sym (pair lists lawful p r (turn lists r p with_p) family spot)
       ∙ treated.sends r family spot with_p with_q (first-listed lists, inside)
       ∙ pair lists lawful q r (turn lists r q with_q) family spot
 
-  receives-at : AreTreatedAlike lists p q → (r : ℕ) → AreTwoPods lists r p → AreTwoPods lists r q → PassTheSame lists (number_of lists r) a (number_of lists r) b
+  receives-at : AreTreatedAlike lists p q → (r : ℕ) → AreTwoPods lists r p → AreTwoPods lists r q → PassTheSame lists (workload_number lists r) a (workload_number lists r) b
   receives-at treated r with_p with_q spot inside =
       let family = family_of_list lists in
       sym (pair lists lawful r p with_p family spot)
@@ -248,10 +248,10 @@ module _ (lists : EstateLists) (lawful : IsLawful lists) (p q : ℕ) (two : AreT
       ∙ pair lists lawful q p (turn lists p q two) family spot
 
   -- a pod of a third workload
-  third : (r : ℕ) → r < length lists.pods → number_of lists r ≢ a → number_of lists r ≢ b → AreTwoPods lists r p × AreTwoPods lists r q
+  third : (r : ℕ) → r < length lists.pods → workload_number lists r ≢ a → workload_number lists r ≢ b → AreTwoPods lists r p × AreTwoPods lists r q
   third r r_in not_a not_b = (
-    (r_in, two.0, λ same. not_a (ap (number_of lists) same)),
-    (r_in, two.1, λ same. not_b (ap (number_of lists) same)),
+    (r_in, two.0, λ same. not_a (ap (workload_number lists) same)),
+    (r_in, two.1, λ same. not_b (ap (workload_number lists) same)),
   )
 
   -- pods that are treated alike are of workloads that are
@@ -270,11 +270,11 @@ module _ (lists : EstateLists) (lawful : IsLawful lists) (p q : ℕ) (two : AreT
     both_ways = both-ways treated;
     first = λ defined.
         let (r, r_in, r_of, apart) = another lists p two.0 defined in
-        subst (λ (n : ℕ). PassTheSame lists n a n b) r_of (receives-at treated r (r_in, two.0, apart) (r_in, two.1, λ same. other (sym r_of ∙ ap (number_of lists) same)));
+        subst (λ (n : ℕ). PassTheSame lists n a n b) r_of (receives-at treated r (r_in, two.0, apart) (r_in, two.1, λ same. other (sym r_of ∙ ap (workload_number lists) same)));
     second = λ defined.
         let (r, r_in, r_of, apart) = another lists q two.1 defined in
         let from_b : PassTheSame lists b a b b = subst (λ (n : ℕ). PassTheSame lists n a n b) r_of
-        (receives-at treated r (r_in, two.0, λ same. other (ap (number_of lists) (sym same) ∙ r_of)) (r_in, two.1, apart)) in
+        (receives-at treated r (r_in, two.0, λ same. other (ap (workload_number lists) (sym same) ∙ r_of)) (r_in, two.1, apart)) in
         λ spot inside. sym (from_b spot inside) ∙ sym (both-ways treated spot inside);
     addresses = λ direction. same-rows lists a b direction (λ family number spot within inside.
         sym (with_address-address_allows lists p direction family number spot lawful two.0)
@@ -287,27 +287,27 @@ module _ (lists : EstateLists) (lawful : IsLawful lists) (p q : ℕ) (two : AreT
   module _ (treated : WorkloadsPassAlike lists a b) (alike : (r s : ℕ) → AreTwoPods lists r s → AreFamiliesAlike lists r s) where
     -- what passes between two pods passes between their workloads in the first family
     moved : (r s : ℕ) → AreTwoPods lists r s → (family : Family) (spot : PortSpot) → IsListed lists family spot →
-        between_pods lists r s family spot ≡ pair_allows lists (folding_of lists) (number_of lists r) (number_of lists s) (family_of_list lists) spot
+        between_pods lists r s family spot ≡ pair_allows lists (folding_of lists) (workload_number lists r) (workload_number lists s) (family_of_list lists) spot
     moved r s both family spot listed = alike r s both family (family_of_list lists) spot listed (first-listed lists, listed.1) ∙ pair lists lawful r s both (family_of_list lists) spot
 
-    sends-by : (r : ℕ) → AreTwoPods lists r p → AreTwoPods lists r q → PassTheSame lists a (number_of lists r) b (number_of lists r)
+    sends-by : (r : ℕ) → AreTwoPods lists r p → AreTwoPods lists r q → PassTheSame lists a (workload_number lists r) b (workload_number lists r)
     sends-by r with_p with_q =
-        elim (cases_eq (number_of lists r) a) [
+        elim (cases_eq (workload_number lists r) a) [
           | inl same ↦ subst (λ (n : ℕ). PassTheSame lists a n b n) (sym same) (λ spot inside. treated.first (same-defined lists r p with_p same) spot inside ∙ treated.both_ways spot inside)
-          | inr not_a ↦ elim (cases_eq (number_of lists r) b) [
+          | inr not_a ↦ elim (cases_eq (workload_number lists r) b) [
             | inl same ↦ subst (λ (n : ℕ). PassTheSame lists a n b n) (sym same) (λ spot inside. sym (treated.second (same-defined lists r q with_q same) spot inside))
-            | inr not_b ↦ treated.sends (number_of lists r) (number-within lists r with_p.0) not_a not_b
+            | inr not_b ↦ treated.sends (workload_number lists r) (number-within lists r with_p.0) not_a not_b
           ]
         ]
 
-    receives-by : (r : ℕ) → AreTwoPods lists r p → AreTwoPods lists r q → PassTheSame lists (number_of lists r) a (number_of lists r) b
+    receives-by : (r : ℕ) → AreTwoPods lists r p → AreTwoPods lists r q → PassTheSame lists (workload_number lists r) a (workload_number lists r) b
     receives-by r with_p with_q =
-        elim (cases_eq (number_of lists r) a) [
+        elim (cases_eq (workload_number lists r) a) [
           | inl same ↦ subst (λ (n : ℕ). PassTheSame lists n a n b) (sym same) (treated.first (same-defined lists r p with_p same))
-          | inr not_a ↦ elim (cases_eq (number_of lists r) b) [
+          | inr not_a ↦ elim (cases_eq (workload_number lists r) b) [
             | inl same ↦ subst (λ (n : ℕ). PassTheSame lists n a n b) (sym same)
                 (λ spot inside. sym (treated.both_ways spot inside) ∙ sym (treated.second (same-defined lists r q with_q same) spot inside))
-            | inr not_b ↦ treated.receives (number_of lists r) (number-within lists r with_p.0) not_a not_b
+            | inr not_b ↦ treated.receives (workload_number lists r) (number-within lists r with_p.0) not_a not_b
           ]
         ]
 
@@ -327,14 +327,14 @@ module _ (lists : EstateLists) (lawful : IsLawful lists) (p q : ℕ) (two : AreT
     }
 
 -- the first two workloads that are alike to selectors and that some packet tells apart
-alike-at : (lists : EstateLists) (p q : ℕ) → IsLawful lists → AreTwoPods lists p q → flat_fault lists ≡ Some (Alike (number_of lists p) (number_of lists q)) →
-    RefusesFlatten lists (fault.Alike (name_of (folding_of lists) (number_of lists p)) (name_of (folding_of lists) (number_of lists q)))
+alike-at : (lists : EstateLists) (p q : ℕ) → IsLawful lists → AreTwoPods lists p q → flat_fault lists ≡ Some (Alike (workload_number lists p) (workload_number lists q)) →
+    RefusesFlatten lists (fault.Alike (name_of_workload (folding_of lists) (workload_number lists p)) (name_of_workload (folding_of lists) (workload_number lists q)))
 alike-at lists p q lawful two is =
-    let a = number_of lists p in
-    let b = number_of lists q in
+    let a = workload_number lists p in
+    let b = workload_number lists q in
     let together = alike_together lists a b is in
     let none : (r s : ℕ) → AreTwoPods lists r s → AreFamiliesAlike lists r s = λ r s both. pods-alike lists lawful r s both
-    (nothing_split lists a b is (number_of lists r) (number_of lists s) (number-within lists r both.0) (number-within lists s both.1)) in record {
+    (nothing_split lists a b is (workload_number lists r) (workload_number lists s) (number-within lists r both.0) (number-within lists s both.1)) in record {
       p = p;
       q = q;
       a_is = refl;
@@ -342,14 +342,14 @@ alike-at lists p q lawful two is =
       alike = (two, together.0, look-from lists p q two together.1);
       differ = λ treated. alike_differ lists a b is (workloads-treated lists lawful p q two (λ same. omega (arith, together.0, same)) treated);
       first = λ r s look before. pods-treated lists lawful r s look.0 (λ same. omega (arith, look.1, same))
-          (alike_is_first lists a b is (number_of lists r) (number_of lists s) (number-within lists s look.0.1) look.1 (look-to lists r s look.0 look.2) before) none;
+          (alike_is_first lists a b is (workload_number lists r) (workload_number lists s) (number-within lists s look.0.1) look.1 (look-to lists r s look.0 look.2) before) none;
       nothing_split = none;
     }
 
 -- ---- by numbers of workloads
 
 pub tells-split : (lists : EstateLists) (a b : ℕ) → IsLawful lists → flat_fault lists ≡ Some (Split a b) →
-    RefusesFlatten lists (fault.Split (name_of (folding_of lists) a) (name_of (folding_of lists) b))
+    RefusesFlatten lists (fault.Split (name_of_workload (folding_of lists) a) (name_of_workload (folding_of lists) b))
 tells-split lists a b lawful is =
     let folding = folding_of lists in
     let within = fault-workloads lists (Split a b) (inr is) in
@@ -358,13 +358,13 @@ tells-split lists a b lawful is =
     let stand = stand-for lists a b within.0 within.1 apart in
     let p = source_pod folding a in
     let q = destination_pod folding a b in
-    let told = is ∙ ap (λ (n : ℕ). Some (Split n b)) (sym stand.p_of) ∙ ap (λ (n : ℕ). Some (Split (number_of lists p) n)) (sym stand.q_of) in
-    subst (λ (n : ℕ). RefusesFlatten lists (fault.Split (name_of folding n) (name_of folding b))) stand.p_of
-    (subst (λ (n : ℕ). RefusesFlatten lists (fault.Split (name_of folding (number_of lists p)) (name_of folding n))) stand.q_of
+    let told = is ∙ ap (λ (n : ℕ). Some (Split n b)) (sym stand.p_of) ∙ ap (λ (n : ℕ). Some (Split (workload_number lists p) n)) (sym stand.q_of) in
+    subst (λ (n : ℕ). RefusesFlatten lists (fault.Split (name_of_workload folding n) (name_of_workload folding b))) stand.p_of
+    (subst (λ (n : ℕ). RefusesFlatten lists (fault.Split (name_of_workload folding (workload_number lists p)) (name_of_workload folding n))) stand.q_of
     (split-at lists lawful p q (stand.p_in, stand.q_in, stand.apart) told))
 
 pub tells-alike : (lists : EstateLists) (a b : ℕ) → IsLawful lists → flat_fault lists ≡ Some (Alike a b) →
-    RefusesFlatten lists (fault.Alike (name_of (folding_of lists) a) (name_of (folding_of lists) b))
+    RefusesFlatten lists (fault.Alike (name_of_workload (folding_of lists) a) (name_of_workload (folding_of lists) b))
 tells-alike lists a b lawful is =
     let folding = folding_of lists in
     let within = fault-workloads lists (Alike a b) (inr is) in
@@ -373,7 +373,7 @@ tells-alike lists a b lawful is =
     let stand = stand-for lists a b within.0 within.1 apart in
     let p = source_pod folding a in
     let q = destination_pod folding a b in
-    let told = is ∙ ap (λ (n : ℕ). Some (Alike n b)) (sym stand.p_of) ∙ ap (λ (n : ℕ). Some (Alike (number_of lists p) n)) (sym stand.q_of) in
-    subst (λ (n : ℕ). RefusesFlatten lists (fault.Alike (name_of folding n) (name_of folding b))) stand.p_of
-    (subst (λ (n : ℕ). RefusesFlatten lists (fault.Alike (name_of folding (number_of lists p)) (name_of folding n))) stand.q_of
+    let told = is ∙ ap (λ (n : ℕ). Some (Alike n b)) (sym stand.p_of) ∙ ap (λ (n : ℕ). Some (Alike (workload_number lists p) n)) (sym stand.q_of) in
+    subst (λ (n : ℕ). RefusesFlatten lists (fault.Alike (name_of_workload folding n) (name_of_workload folding b))) stand.p_of
+    (subst (λ (n : ℕ). RefusesFlatten lists (fault.Alike (name_of_workload folding (workload_number lists p)) (name_of_workload folding n))) stand.q_of
     (alike-at lists p q lawful (stand.p_in, stand.q_in, stand.apart) told))

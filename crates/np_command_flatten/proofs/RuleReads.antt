@@ -11,7 +11,7 @@ use Rattle.np_json.specs.Prelude.{listed, member_of, must_be_object, optional, p
 use Rattle.np_written.specs.Values.{object_with}
 use Rattle.np_json.proofs.ReadLemmas.{port-read}
 use Rattle.np_model.specs.Prelude.{is_well_cidr, is_whole_word, is_word}
-use Rattle.np_policies.specs.Prelude.{cidr, end_port, ip_block, net_peer, net_port, net_rule, port_name, port_value, protocol, selector}
+use Rattle.np_policies.specs.Prelude.{cidr, container_port_name, end_port, ip_block, net_peer, net_port, net_rule, port_value, protocol, selector}
 use Rattle.np_model.specs.WellPolicies.{is_well_selector}
 use Rattle.np_manifests.specs.Manifests as manifests
 use Rattle.np_manifests.specs.Members.{if_some}
@@ -54,15 +54,15 @@ span-read of lo hi least above most = by (lo == hi) refl
 pub key-parts : (s : List ℕ) → is_whole_word s ≡ true → ((length s == 0) ≡ false) × (is_word s ≡ true)
 key-parts s key = let parts = and_parts (not (length s == 0)) (is_word s) key in (not-true (length s == 0) parts.0, parts.1)
 
-port_entry-read : (one : NetPort) → is_printable_port one ≡ true → net_port (manifests.port one) ≡ Ok one
-unfolding net_port must_be_object refuse_if optional under port_value port_name
+port_entry-read : (one : NetPort) → is_printable_port one ≡ true → net_port (manifests.port_data one) ≡ Ok one
+unfolding net_port must_be_object refuse_if optional under port_value container_port_name
 port_entry-read (Span of lo hi) is =
     let parts = and_parts (nat_le 1 lo && nat_le lo hi) (nat_le hi 65535) is in
     let low = and_parts (nat_le 1 lo) (nat_le lo hi) parts.0 in
     span-read of lo hi (leb-true 1 lo low.0) (leb-true lo hi low.1) (leb-true hi 65535 parts.1)
 port_entry-read (Named of name) is =
     let parts = key-parts name is in
-    rw (protocol-read of (manifests.port (Named of name)) refl, parts.0, parts.1) refl
+    rw (protocol-read of (manifests.port_data (Named of name)) refl, parts.0, parts.1) refl
 
 -- ---- peers
 
@@ -76,7 +76,7 @@ block-well (Six base len) is =
     let cidr = and_parts (nat_le len 128) (base % 2 ^ (128 - len) == 0) parts.1 in
     (ltb-true base (2 ^ 128) parts.0, (leb-true len 128 cidr.0, eqb-true (base % 2 ^ (128 - len)) 0 cidr.1))
 
-block-read : (one : Cidr) → is_printable_block one ≡ true → cidr (manifests.block one) ≡ Ok one
+block-read : (one : Cidr) → is_printable_block one ≡ true → cidr (manifests.block_data one) ≡ Ok one
 unfolding cidr
 block-read one is =
     let well = block-well one is in
@@ -86,16 +86,16 @@ excepts-member : (of_cidr : Data) (values : List Data) → member_of (codes "exc
 excepts-member of_cidr [] = refl
 excepts-member of_cidr (value ∷ values) = refl
 
-ip_block-read : (block : Cidr) (excepts : List Cidr) → is_printable_peer (Block block excepts) ≡ true → ip_block (manifests.ip_block block excepts) ≡ Ok (record { cidr = block; excepts = excepts })
+ip_block-read : (block : Cidr) (excepts : List Cidr) → is_printable_peer (Block block excepts) ≡ true → ip_block (manifests.ip_block_data block excepts) ≡ Ok (record { cidr = block; excepts = excepts })
 unfolding ip_block must_be_object refuse_if
 ip_block-read block excepts is =
     let parts = and_parts (is_printable_block block && list_all is_printable_block excepts) (is_none (first_bad_except block excepts)) is in
     let blocks = and_parts (is_printable_block block) (list_all is_printable_block excepts) parts.0 in
-    let value = manifests.ip_block block excepts in
-    let first : required (codes "cidr") cidr value ≡ Ok block = required-read (codes "cidr") cidr value (manifests.block block) block refl (block-read block blocks.0) in
+    let value = manifests.ip_block_data block excepts in
+    let first : required (codes "cidr") cidr value ≡ Ok block = required-read (codes "cidr") cidr value (manifests.block_data block) block refl (block-read block blocks.0) in
     let others : listed (codes "except") cidr value ≡ Ok excepts =
-    some-read (codes "except") cidr manifests.block value excepts (excepts-member (manifests.block block) (map manifests.block excepts))
-    (all-passed is_printable_block (λ one. cidr (manifests.block one) ≡ Ok one) block-read excepts blocks.1) in
+    some-read (codes "except") cidr manifests.block_data value excepts (excepts-member (manifests.block_data block) (map manifests.block_data excepts))
+    (all-passed is_printable_block (λ one. cidr (manifests.block_data one) ≡ Ok one) block-read excepts blocks.1) in
     let none : first_bad_except block excepts ≡ None = by (first_bad_except block excepts) parts.1 in
     rw (first, others, none) refl
   where
@@ -111,13 +111,13 @@ pods-read (Some namespaces) None is =
     let value = manifests.pods (Some namespaces) None in
     rw (
       optional-none (codes "podSelector") selector value refl,
-      optional-read (codes "namespaceSelector") selector value (manifests.selector namespaces) namespaces refl (selector-read namespaces wells.1),
+      optional-read (codes "namespaceSelector") selector value (manifests.selector_data namespaces) namespaces refl (selector-read namespaces wells.1),
       optional-none (codes "ipBlock") ip_block value refl,
     ) refl
 pods-read None (Some pods) is =
     let value = manifests.pods None (Some pods) in
     rw (
-      optional-read (codes "podSelector") selector value (manifests.selector pods) pods refl (selector-read pods is),
+      optional-read (codes "podSelector") selector value (manifests.selector_data pods) pods refl (selector-read pods is),
       optional-none (codes "namespaceSelector") selector value refl,
       optional-none (codes "ipBlock") ip_block value refl,
     ) refl
@@ -125,8 +125,8 @@ pods-read (Some namespaces) (Some pods) is =
     let wells = and_parts (is_well_selector namespaces) (is_well_selector pods) is in
     let value = manifests.pods (Some namespaces) (Some pods) in
     rw (
-      optional-read (codes "podSelector") selector value (manifests.selector pods) pods refl (selector-read pods wells.1),
-      optional-read (codes "namespaceSelector") selector value (manifests.selector namespaces) namespaces refl (selector-read namespaces wells.0),
+      optional-read (codes "podSelector") selector value (manifests.selector_data pods) pods refl (selector-read pods wells.1),
+      optional-read (codes "namespaceSelector") selector value (manifests.selector_data namespaces) namespaces refl (selector-read namespaces wells.0),
       optional-none (codes "ipBlock") ip_block value refl,
     ) refl
 
@@ -138,7 +138,7 @@ peer-read (Block block excepts) is =
     rw (
       optional-none (codes "podSelector") selector value refl,
       optional-none (codes "namespaceSelector") selector value refl,
-      optional-read (codes "ipBlock") ip_block value (manifests.ip_block block excepts) (record { cidr = block; excepts = excepts }) refl (ip_block-read block excepts is),
+      optional-read (codes "ipBlock") ip_block value (manifests.ip_block_data block excepts) (record { cidr = block; excepts = excepts }) refl (ip_block-read block excepts is),
     ) refl
 
 -- ---- rules
@@ -159,7 +159,7 @@ to-member [] (port ∷ ports) = (refl, refl)
 to-member (peer ∷ peers) [] = (refl, refl)
 to-member (peer ∷ peers) (port ∷ ports) = (refl, refl)
 
-pub rule-read : (direction : Direction) (one : NetRule) → is_printable_rule one ≡ true → net_rule direction (manifests.rule direction one) ≡ Ok one
+pub rule-read : (direction : Direction) (one : NetRule) → is_printable_rule one ≡ true → net_rule direction (manifests.rule_data direction one) ≡ Ok one
 unfolding net_rule must_be_object refuse_if
 rule-read direction one is = by direction
   where
@@ -169,15 +169,15 @@ rule-read direction one is = by direction
     peers : AllByRecursion (λ peer. net_peer (manifests.peer peer) ≡ Ok peer) one.peers
     peers = all-passed is_printable_peer (λ peer. net_peer (manifests.peer peer) ≡ Ok peer) peer-read one.peers parts.0
 
-    ports : AllByRecursion (λ port. net_port (manifests.port port) ≡ Ok port) one.ports
-    ports = all-passed is_printable_port (λ port. net_port (manifests.port port) ≡ Ok port) port_entry-read one.ports parts.1
+    ports : AllByRecursion (λ port. net_port (manifests.port_data port) ≡ Ok port) one.ports
+    ports = all-passed is_printable_port (λ port. net_port (manifests.port_data port) ≡ Ok port) port_entry-read one.ports parts.1
 
-    by : (d : Direction) → net_rule d (manifests.rule d one) ≡ Ok one
+    by : (d : Direction) → net_rule d (manifests.rule_data d one) ≡ Ok one
     by Ingress =
-        let value = manifests.rule Ingress one in
-        let members = from-member (map manifests.peer one.peers) (map manifests.port one.ports) in
-        rw (some-read (codes "from") net_peer manifests.peer value one.peers members.0 peers, some-read (codes "ports") net_port manifests.port value one.ports members.1 ports) refl
+        let value = manifests.rule_data Ingress one in
+        let members = from-member (map manifests.peer one.peers) (map manifests.port_data one.ports) in
+        rw (some-read (codes "from") net_peer manifests.peer value one.peers members.0 peers, some-read (codes "ports") net_port manifests.port_data value one.ports members.1 ports) refl
     by Egress =
-        let value = manifests.rule Egress one in
-        let members = to-member (map manifests.peer one.peers) (map manifests.port one.ports) in
-        rw (some-read (codes "to") net_peer manifests.peer value one.peers members.0 peers, some-read (codes "ports") net_port manifests.port value one.ports members.1 ports) refl
+        let value = manifests.rule_data Egress one in
+        let members = to-member (map manifests.peer one.peers) (map manifests.port_data one.ports) in
+        rw (some-read (codes "to") net_peer manifests.peer value one.peers members.0 peers, some-read (codes "ports") net_port manifests.port_data value one.ports members.1 ports) refl

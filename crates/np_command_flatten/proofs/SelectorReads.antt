@@ -57,12 +57,12 @@ values-member : (of_key of_operator : Data) (values : List Data) →
 values-member of_key of_operator [] = refl
 values-member of_key of_operator (value ∷ values) = refl
 
-expression-read : (one : Requirement) → well.is_well_requirement one ≡ true → is_worded one ≡ true → expression (manifests.expression one) ≡ Ok one
+expression-read : (one : Requirement) → well.is_well_requirement one ≡ true → is_worded one ≡ true → expression (manifests.expression_data one) ≡ Ok one
 unfolding expression must_be_object refuse_if
 expression-read one is_well words =
     let fits = and_parts (is_ascending one.values) (well.fits one.op (not (length one.values == 0))) is_well in
     let parts = and_parts (is_whole_word one.key) (list_all is_word one.values) words in
-    let value = manifests.expression one in
+    let value = manifests.expression_data one in
     let keys : required (codes "key") key value ≡ Ok one.key = required-read (codes "key") key value (string one.key) one.key refl (key-read one.key parts.0) in
     let operators : required (codes "operator") text value ≡ Ok (manifests.operator one.op) = required-read (codes "operator") text value (string (manifests.operator one.op))
     (manifests.operator one.op) refl refl in
@@ -73,24 +73,24 @@ expression-read one is_well words =
 
 -- ---- selectors
 
-expressions-read : (all : List Requirement) → list_all well.is_well_requirement all ≡ true → list_all is_worded all ≡ true → AllByRecursion (λ one. expression (manifests.expression one) ≡ Ok one) all
+expressions-read : (all : List Requirement) → list_all well.is_well_requirement all ≡ true → list_all is_worded all ≡ true → AllByRecursion (λ one. expression (manifests.expression_data one) ≡ Ok one) all
 expressions-read [] fit words = tt
 expressions-read (one ∷ all) fit words =
     let here = and_parts (well.is_well_requirement one) (list_all well.is_well_requirement all) fit in
     let there = and_parts (is_worded one) (list_all is_worded all) words in
     (expression-read one here.0 there.0, expressions-read all here.1 there.1)
 
-pub selector-read : (one : Selector) → is_well_selector one ≡ true → selector (manifests.selector one) ≡ Ok one
+pub selector-read : (one : Selector) → is_well_selector one ≡ true → selector (manifests.selector_data one) ≡ Ok one
 unfolding selector must_be_object refuse_if
 selector-read one is_well =
-    let parts = and_parts (well.is_well_selector one) (list_all is_worded one.requirements) is_well in
+    let parts = and_parts (well.has_well_requirements one) (list_all is_worded one.requirements) is_well in
     by one.requirements (expressions-read one.requirements parts.0 parts.1)
   where
-    by : (all : List Requirement) → AllByRecursion (λ requirement. expression (manifests.expression requirement) ≡ Ok requirement) all →
-        selector (manifests.selector (record { requirements = all })) ≡ Ok (record { requirements = all })
+    by : (all : List Requirement) → AllByRecursion (λ requirement. expression (manifests.expression_data requirement) ≡ Ok requirement) all →
+        selector (manifests.selector_data (record { requirements = all })) ≡ Ok (record { requirements = all })
     by [] reads =
-        let value = manifests.selector (record { requirements = [] }) in
+        let value = manifests.selector_data (record { requirements = [] }) in
         rw (optional-none (codes "matchLabels") labels value refl, listed-none (codes "matchExpressions") expression value refl) refl
     by (first ∷ all) reads =
-        let value = manifests.selector (record { requirements = first ∷ all }) in
-        rw (optional-none (codes "matchLabels") labels value refl, some-read (codes "matchExpressions") expression manifests.expression value (first ∷ all) refl reads) refl
+        let value = manifests.selector_data (record { requirements = first ∷ all }) in
+        rw (optional-none (codes "matchLabels") labels value refl, some-read (codes "matchExpressions") expression manifests.expression_data value (first ∷ all) refl reads) refl

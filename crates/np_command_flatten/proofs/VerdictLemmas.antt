@@ -5,9 +5,9 @@ use Rattle.std.specs.List.{list_any}
 use Rattle.std.proofs.lemmas.List.Sorted.{list_any-IsPermutation}
 use Rattle.np_command_flatten.specs.Prelude.{Direction, EstateLists, Family, NetPolicy, PortSpot, with_policies}
 use Rattle.np_model.specs.declared.direction.Direction.TheVariants.{Egress, Ingress}
-use Rattle.np_rules.specs.Prelude.{Contact, End, Packet, PodEnd, address, allows, contact_of, end_allows, is_isolated, isolates, net_places_of, net_selects, permits, placed_net_matches, pod, pod_at, side_allows}
+use Rattle.np_rules.specs.Prelude.{Contact, ModelEnd, ModelPacket, PodEnd, address, allows, contact_of, end_allows, is_isolated, isolates, net_places_of, net_selects, permits, placed_net_matches, pod, pod_at, side_allows}
 use Rattle.np_flatten.proofs.OnePolicy.{any-flat_map}
-use Rattle.np_kinds.specs.Prelude.{address_of, between_pods, with_address}
+use Rattle.np_kinds.specs.Prelude.{address_numbered, between_pods, with_address}
 
 -- whether some rule of a policy that selects the pod matches
 abbrev policy_permits : Direction → PodEnd → Contact → NetPolicy → Bool
@@ -33,11 +33,11 @@ module _ (lists : EstateLists) (policies nets : List NetPolicy) (same : IsPermut
       ap (λ (isolated : Bool). if isolated then permits nets direction p contact else true) (isolated-same direction p)
       ∙ ap (λ (permitted : Bool). if is_isolated policies direction p then permitted else true) (permits-same direction p contact)
 
-  end-same : (direction : Direction) (e : End) (contact : Contact) → end_allows (with_policies lists nets) direction e contact ≡ end_allows (with_policies lists policies) direction e contact
+  end-same : (direction : Direction) (e : ModelEnd) (contact : Contact) → end_allows (with_policies lists nets) direction e contact ≡ end_allows (with_policies lists policies) direction e contact
   end-same direction (pod p) contact = side-same direction p contact
   end-same direction (address a) contact = refl
 
-  packet-same : (packet : Packet) → allows (with_policies lists nets) packet ≡ allows (with_policies lists policies) packet
+  packet-same : (packet : ModelPacket) → allows (with_policies lists nets) packet ≡ allows (with_policies lists policies) packet
   unfolding allows
   packet-same packet =
       ap (λ (sent : Bool). sent && end_allows (with_policies lists nets) Ingress packet.destination (contact_of Ingress packet)) (end-same Egress packet.source (contact_of Egress packet))
@@ -47,7 +47,7 @@ module _ (lists : EstateLists) (policies nets : List NetPolicy) (same : IsPermut
   pub between-same : (p q : ℕ) (family : Family) (spot : PortSpot) → between_pods (with_policies lists nets) p q family spot ≡ between_pods (with_policies lists policies) p q family spot
   between-same p q family spot = packet-same (record { source = pod (pod_at lists p); destination = pod (pod_at lists q); family = family; spot = spot })
 
-  pub address-same : (direction : Direction) (near : End) (family : Family) (number : ℕ) (spot : PortSpot) →
+  pub address-same : (direction : Direction) (near : ModelEnd) (family : Family) (number : ℕ) (spot : PortSpot) →
       with_address (with_policies lists nets) direction near family number spot ≡ with_address (with_policies lists policies) direction near family number spot
-  address-same Ingress near family number spot = packet-same (record { source = address (address_of family number); destination = near; family = family; spot = spot })
-  address-same Egress near family number spot = packet-same (record { source = near; destination = address (address_of family number); family = family; spot = spot })
+  address-same Ingress near family number spot = packet-same (record { source = address (address_numbered family number); destination = near; family = family; spot = spot })
+  address-same Egress near family number spot = packet-same (record { source = near; destination = address (address_numbered family number); family = family; spot = spot })

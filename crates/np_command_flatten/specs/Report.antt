@@ -2,7 +2,7 @@
 use Rattle.std.specs.Prelude.{ℕ, List, [], ◌++◌, ◌==◌, codes, Option, Some, None, Result, Ok, Err, if◌then◌else◌}
 use Rattle.np_command_flatten.specs.Types.{Alike, EstateLists, Fault, FlatFault, NoMemory, Split}
 use Rattle.np_command.specs.declared.fault.Fault.TheVariants as fault
-use Rattle.np_fold.specs.Prelude.{folding_of, name_of}
+use Rattle.np_fold.specs.Prelude.{folding_of, name_of_workload}
 use Rattle.np_manifests.specs.Lists.{list_line, policy_text}
 use Rattle.np_flatten.specs.Prelude.{flat_fault, flat_policies, flat_policy}
 use Rattle.np_kinds.specs.Prelude.{IsWorkload}
@@ -18,8 +18,8 @@ item_text lists group = (if group == 0 then [] else codes ",") ++ policy_text (f
 -- The policies, or the two workloads for which there are none; want of memory is no fault of an estate.
 abbrev pub policies_unless : EstateLists → Option FlatFault → Result (List ℕ) Fault
 policies_unless lists None = Ok (flatten_text lists)
-policies_unless lists (Some (Split source destination)) = Err (fault.Split (name_of (folding_of lists) source) (name_of (folding_of lists) destination))
-policies_unless lists (Some (Alike a b)) = Err (fault.Alike (name_of (folding_of lists) a) (name_of (folding_of lists) b))
+policies_unless lists (Some (Split source destination)) = Err (fault.Split (name_of_workload (folding_of lists) source) (name_of_workload (folding_of lists) destination))
+policies_unless lists (Some (Alike a b)) = Err (fault.Alike (name_of_workload (folding_of lists) a) (name_of_workload (folding_of lists) b))
 policies_unless lists (Some NoMemory) = Ok (flatten_text lists)
 
 -- a fault of two workloads speaks of workloads of the estate

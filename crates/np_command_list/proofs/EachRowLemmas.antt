@@ -13,7 +13,7 @@ use Rattle.np_base.proofs.Lists.{All-numbers}
 use Rattle.np_command_list.specs.Prelude.{AddressRow, Direction, Egress, EstateLists, Family, Four, Ingress, IsPodOf, IsRowOf, IsSpanRow, LetSomePass, PortSpot, Row, Six}
 use Rattle.np_command_list.proofs.RowPartLemmas.{Agree, IsStretchOf, families-each, row_if-each, walk-stretches}
 use Rattle.np_fold.proofs.WorkloadLemmas.{pods-ascend}
-use Rattle.np_fold.specs.Prelude.{folding_of, members_of, number_of}
+use Rattle.np_fold.specs.Prelude.{folding_of, members_of, workload_number}
 use Rattle.np_model.specs.Prelude.{families_of}
 use Rattle.np_routes.specs.Prelude.{all_ingress_rows, cluster_rows, cluster_table, ingress_allows, ingress_key, ingress_row}
 use Rattle.np_routes.proofs.ClusterLemmas.{estate-names}
@@ -67,7 +67,7 @@ module _ (lists : EstateLists) where
             λ equal. two-apart (members_of (folding_of lists) source) (pods-ascend lists source) longer
             (equal ∙ ap (λ (one : Bool). slice_index (members_of (folding_of lists) destination) (if one then 1 else 0)) same.0
             ∙ ap (λ (number : ℕ). slice_index (members_of (folding_of lists) number) 1) (sym same.1))
-        | inr differ ↦ λ equal. differ.1 (sym (source-of source from).1 ∙ ap (number_of lists) equal ∙ (destination-of source destination to alone).1)
+        | inr differ ↦ λ equal. differ.1 (sym (source-of source from).1 ∙ ap (workload_number lists) equal ∙ (destination-of source destination to alone).1)
       ]
 
   -- ---- pair rows

@@ -10,7 +10,7 @@ use Rattle.std.specs.declared.cmp.Ordering.TheVariants.{Equal, Less}
 use Rattle.std.proofs.lemmas.Bool.{false≢true}
 use Rattle.std.proofs.lemmas.List.Elements.{All-contains, All-contains_itself, All-filter, filter_passes}
 use Rattle.std.proofs.lemmas.List.Folds.{Any-from_list_any, list_any_at}
-use Rattle.np_command_list.specs.Prelude.{ComesBefore, Family, Row, RowKey, rank_of, row_rank}
+use Rattle.np_command_list.specs.Prelude.{ComesBefore, Family, Row, RowKey, row_rank, row_rank_of}
 use Rattle.np_conns.specs.Prelude.{has_spot}
 use Rattle.np_table.specs.Prelude.{AllowSamePorts}
 
@@ -98,7 +98,7 @@ pub record AreToldAlike (one other : Row) : Type 0 where
 
 pub told-rank : (one other : Row) → one.key ≡ other.key → one.family ≡ other.family → row_rank one ≡ row_rank other
 told-rank one other key family =
-    ap (λ (key : RowKey). rank_of key.source key.destination one.family) key ∙ ap (λ (mark : Option Family). rank_of other.key.source other.key.destination mark) family
+    ap (λ (key : RowKey). row_rank_of key.source key.destination one.family) key ∙ ap (λ (mark : Option Family). row_rank_of other.key.source other.key.destination mark) family
 
 -- each row of a list is told as one of another
 abbrev pub AreAmong : List Row → List Row → Type 0

@@ -6,7 +6,7 @@ use Rattle.np_command_list.proofs.SameRangesLemmas.{range-among}
 use Rattle.np_command_list.proofs.SameRowsLemmas.{ingress-among, kept-key, pair-among, row-of}
 use Rattle.np_conns.proofs.ConnLemmas.{conns_text-agrees}
 use Rattle.np_conns.specs.Prelude.{conns_text, has_spot}
-use Rattle.np_report.specs.Prelude.{end_text, family_suffix, row_text, texts_of}
+use Rattle.np_report.specs.Prelude.{family_suffix, row_end_text, row_text, texts_of}
 use Rattle.np_report.specs.declared.row.RowText.{RowText}
 use Rattle.np_routes.specs.Prelude.{ingress_key}
 use Rattle.np_table.specs.Prelude.{key_of, pair_key}
@@ -49,7 +49,7 @@ text-alike names report one other alike =
     ∙ ap (λ (connections : List ℕ). text other.key other.family connections) (conns_text-agrees (has_spot one.conns) (has_spot other.conns) alike.ports)
   where
     text : RowKey → Option Family → List ℕ → RowText
-    text key mark connections = record { source = end_text names report key.source; destination = end_text names report key.destination ++ family_suffix mark; connections = connections }
+    text key mark connections = record { source = row_end_text names report key.source; destination = row_end_text names report key.destination ++ family_suffix mark; connections = connections }
 
 -- lists that say what passes are told by one text
 pub one-text : (lists : EstateLists) (sender : Option ℕ) (query : Query) (rows others : List Row) (names : List (List ℕ)) (report : Report) → SayWhatPasses lists sender query rows →

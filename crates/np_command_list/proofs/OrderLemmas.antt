@@ -9,7 +9,7 @@ use Rattle.std.specs.declared.cmp.Ordering.TheVariants.{Less}
 use Rattle.std.proofs.lemmas.Bool.{lt-ltb}
 use Rattle.std.proofs.lemmas.List.Elements.{All-append, All-cons, All-head, All-map, All-nil, All-tail, All-weaker}
 use Rattle.std.proofs.lemmas.List.Kept.{AllPairs-cons}
-use Rattle.np_command_list.specs.Prelude.{AddressRow, ComesBefore, Direction, Egress, Family, Four, Ingress, PortSpot, Row, RowKey, Six, mark_rank, rank_of, row_rank, span_rank}
+use Rattle.np_command_list.specs.Prelude.{AddressRow, ComesBefore, Direction, Egress, Family, Four, Ingress, PortSpot, Row, RowKey, Six, mark_rank, row_rank, row_rank_of, span_rank}
 use Rattle.np_conns.specs.Prelude.{Conns, are_same_conns, conns_of}
 use Rattle.np_routes.specs.Prelude.{ClusterTable, all_ingress_rows, cluster_rows, ingress_key, ingress_row}
 use Rattle.np_table.proofs.RangeWalks.{walk-right}
@@ -108,7 +108,7 @@ row_if-ordered key mark conns = by (is_nothing conns)
     by true = λ i j d below within. absurd (omega arith)
     by false = λ i j d below within. absurd (omega arith)
 
-row_if-begins : (front rest : List ℕ) (key : RowKey) (mark : Option Family) (conns : Conns) → rank_of key.source key.destination mark ≡ front ++ rest → All (Begins front) (row_if key mark conns)
+row_if-begins : (front rest : List ℕ) (key : RowKey) (mark : Option Family) (conns : Conns) → row_rank_of key.source key.destination mark ≡ front ++ rest → All (Begins front) (row_if key mark conns)
 row_if-begins front rest key mark conns is = by (is_nothing conns)
   where
     by : (nothing : Bool) → All {X = Row} (Begins front) (if nothing then [] else record { key = key; family = mark; conns = conns } ∷ [])
@@ -143,7 +143,7 @@ pair-ordered table source destination = families-ordered table.families source d
 pair-begins : (table : Table) (source destination : ℕ) → All (Begins (0 ∷ source ∷ destination ∷ [])) (pair_rows table source destination)
 pair-begins table source destination =
     All-weaker (HasKey (pair_key source destination)) (Begins (0 ∷ source ∷ destination ∷ []))
-    (λ row has. (mark_rank row.family ∷ [], ap (λ (key : RowKey). rank_of key.source key.destination row.family) has))
+    (λ row has. (mark_rank row.family ∷ [], ap (λ (key : RowKey). row_rank_of key.source key.destination row.family) has))
     (pair_rows table source destination) (pair_rows-key table source destination)
 
 source-begins : (table : Table) (source : ℕ) → All (Begins (0 ∷ source ∷ [])) (flat_map (pair_rows table source) (workloads table))

@@ -9,7 +9,7 @@ use Rattle.np_command.specs.Prelude.{SinkTrace, TookWhole, fault_in, lists_of, t
 use Rattle.np_command_list.proofs.EachRowLemmas.{cluster_rows-are}
 use Rattle.np_command_list.proofs.NamedLemmas.{controller-named, controller-unknown, focus-named, focus-unknown}
 use Rattle.np_command_list.proofs.OrderLemmas.{cluster-ordered}
-use Rattle.np_fold.specs.Prelude.{folding_of, number_of}
+use Rattle.np_fold.specs.Prelude.{folding_of, workload_number}
 use Rattle.np_model.specs.Prelude.{IsLawful}
 use Rattle.np_report.specs.Prelude.{keeps, list_text, names_of, report_text, shown_rows, texts_of}
 use Rattle.np_report.specs.declared.query.Query.TheVariants as query
@@ -36,10 +36,10 @@ table_is lists controller = refl
 says_pods : (lists : EstateLists) (sender : Option ℕ) (query : Query) → IsLawful lists → SaysPods lists query (rows_shown lists sender query)
 says_pods lists sender query lawful = λ p q family spot first second apart among is kept.
     let cluster = cluster_table lists sender in
-    let between : List Row → List Row = rows_between (number_of lists p) (number_of lists q) in
+    let between : List Row → List Row = rows_between (workload_number lists p) (workload_number lists q) in
     let shown : between (rows_shown lists sender query) ≡ between (all_rows (table_of lists (folding_of lists))) =
-    rows_between-kept (number_of lists p) (number_of lists q) (keeps query) (cluster_rows cluster) ∙ rw kept refl
-    ∙ rows_between-cluster cluster (number_of lists p) (number_of lists q) ∙ ap (λ (table : Table). between (all_rows table)) (table_is lists sender) in
+    rows_between-kept (workload_number lists p) (workload_number lists q) (keeps query) (cluster_rows cluster) ∙ rw kept refl
+    ∙ rows_between-cluster cluster (workload_number lists p) (workload_number lists q) ∙ ap (λ (table : Table). between (all_rows table)) (table_is lists sender) in
     ap (λ (found : List Row). allows_in found family spot) shown ∙ allows_in-pods lists p q family spot lawful first second apart among is
 
 -- whether a query keeps a row of a workload and addresses is the same whatever the addresses
@@ -78,7 +78,7 @@ address-key workload Egress family number row is =
 says_addresses : (lists : EstateLists) (sender : Option ℕ) (query : Query) → IsLawful lists → SaysAddresses lists query (rows_shown lists sender query)
 says_addresses lists sender query lawful = λ p direction family number addresses within in_family kept.
     let cluster = cluster_table lists sender in
-    let workload = number_of lists p in
+    let workload = workload_number lists p in
     let one = one_row-pods lists p direction family number lawful within in_family in
     let among : rows_of_address workload direction family number (cluster_rows cluster) ≡ one.0 ∷ [] =
     rows_of_address-cluster cluster workload direction family number
@@ -93,26 +93,26 @@ says_addresses lists sender query lawful = λ p direction family number addresse
 
 -- what is reached of a workload is what is reached of each of its pods, and nothing of the controller
 ingress_allows-pods : (lists : EstateLists) (controller : Option ℕ) (p : ℕ) (spot : PortSpot) → IsLawful lists → p < length lists.pods
-    → ingress_allows lists (folding_of lists) controller (number_of lists p) spot
-    ≡ (not (is_controller controller (number_of lists p)) && ingress_reaches lists (sender_of (folding_of lists) controller) p spot)
+    → ingress_allows lists (folding_of lists) controller (workload_number lists p) spot
+    ≡ (not (is_controller controller (workload_number lists p)) && ingress_reaches lists (sender_of (folding_of lists) controller) p spot)
 unfolding ingress_allows
-ingress_allows-pods lists controller p spot lawful within = by (is_controller controller (number_of lists p)) refl
+ingress_allows-pods lists controller p spot lawful within = by (is_controller controller (workload_number lists p)) refl
   where
-    by : (own : Bool) → is_controller controller (number_of lists p) ≡ own
-        → (not own && ingress_reaches lists (sender_of (folding_of lists) controller) (source_pod (folding_of lists) (number_of lists p)) spot)
+    by : (own : Bool) → is_controller controller (workload_number lists p) ≡ own
+        → (not own && ingress_reaches lists (sender_of (folding_of lists) controller) (source_pod (folding_of lists) (workload_number lists p)) spot)
         ≡ (not own && ingress_reaches lists (sender_of (folding_of lists) controller) p spot)
     by true is = refl
     by false is =
-        ap (λ (own : Bool). not own && ingress_reaches lists (sender_of (folding_of lists) controller) (source_pod (folding_of lists) (number_of lists p)) spot) (sym is)
+        ap (λ (own : Bool). not own && ingress_reaches lists (sender_of (folding_of lists) controller) (source_pod (folding_of lists) (workload_number lists p)) spot) (sym is)
         ∙ sym (reaches-allows lists controller p spot lawful within is)
 
 says_ingresses : (lists : EstateLists) (sender : Option ℕ) (query : Query) → IsLawful lists → SaysIngresses lists sender query (rows_shown lists sender query)
 says_ingresses lists sender query lawful = λ p family spot within is kept.
     let cluster = cluster_table lists sender in
-    let shown : rows_from_controller (number_of lists p) (rows_shown lists sender query) ≡ rows_from_controller (number_of lists p) (cluster_rows cluster) =
-    rows_from_controller-kept (number_of lists p) (keeps query) (cluster_rows cluster) ∙ rw kept refl in
+    let shown : rows_from_controller (workload_number lists p) (rows_shown lists sender query) ≡ rows_from_controller (workload_number lists p) (cluster_rows cluster) =
+    rows_from_controller-kept (workload_number lists p) (keeps query) (cluster_rows cluster) ∙ rw kept refl in
     ap (λ (found : List Row). allows_in found family spot) shown
-    ∙ allows_in-workloads lists sender (number_of lists p) family spot (number-workload lists p within) is
+    ∙ allows_in-workloads lists sender (workload_number lists p) family spot (number-workload lists p within) is
     ∙ ingress_allows-pods lists sender p spot lawful within
 
 -- the rows of the table that are asked for say what passes

@@ -15,12 +15,12 @@ use Rattle.np_conns.proofs.ConnLemmas.{conns_of-set, conns_of-well}
 use Rattle.np_model.specs.Prelude.{families_of, has_family, or_four}
 use Rattle.np_table.proofs.RangeWalks.{walk-right}
 use Rattle.np_table.proofs.SaidLemmas.{are_same_conns-ports}
-use Rattle.np_table.specs.Prelude.{AllowSamePorts, AreRight, Stretch, is_none, is_nothing, row_if, rows_in, walk}
+use Rattle.np_table.specs.Prelude.{AllowSamePorts, AreRight, Stretch, has_no_range, is_nothing, row_if, rows_in, walk}
 
 -- ---- connections
 
 -- ranges that are some hold a port
-some_port : (ranges : List (Range ℕ)) → AscendsInPorts ranges → is_none ranges ≡ false → (port : ℕ) × (nat_le 1 port ≡ true) × (nat_le port 65535 ≡ true) × (holds (λ p. p) ranges port ≡ true)
+some_port : (ranges : List (Range ℕ)) → AscendsInPorts ranges → has_no_range ranges ≡ false → (port : ℕ) × (nat_le 1 port ≡ true) × (nat_le port 65535 ≡ true) × (holds (λ p. p) ranges port ≡ true)
 some_port [] ascends some = absurd (false≢true (sym some))
 some_port (range ∷ ranges) ascends some = (
   range.lo,
@@ -29,16 +29,16 @@ some_port (range ∷ ranges) ascends some = (
   rw (le-leb range.lo range.lo (omega arith), le-leb range.lo range.hi ascends.1) refl,
 )
 
-some_spot : (conns : Conns) (proto : Proto) → AscendsInPorts (ranges_of conns proto) → is_none (ranges_of conns proto) ≡ false → LetSomePass conns
+some_spot : (conns : Conns) (proto : Proto) → AscendsInPorts (ranges_of conns proto) → has_no_range (ranges_of conns proto) ≡ false → LetSomePass conns
 some_spot conns proto ascends some =
     let one = some_port (ranges_of conns proto) ascends some in
     (record { proto = proto; port = one.0 }, and_from (nat_le 1 one.0) (nat_le one.0 65535) one.1 one.2, one.3)
 
 -- by connections that are not nothing some port passes
 pub some_pass : (conns : Conns) → IsConns conns → is_nothing conns ≡ false → LetSomePass conns
-some_pass conns well some = by (is_none conns.tcp) (is_none conns.udp) (is_none conns.sctp) refl refl refl
+some_pass conns well some = by (has_no_range conns.tcp) (has_no_range conns.udp) (has_no_range conns.sctp) refl refl refl
   where
-    by : (tcp udp sctp : Bool) → is_none conns.tcp ≡ tcp → is_none conns.udp ≡ udp → is_none conns.sctp ≡ sctp → LetSomePass conns
+    by : (tcp udp sctp : Bool) → has_no_range conns.tcp ≡ tcp → has_no_range conns.udp ≡ udp → has_no_range conns.sctp ≡ sctp → LetSomePass conns
     by false udp sctp is is' is'' = some_spot conns Tcp well.tcp is
     by true false sctp is is' is'' = some_spot conns Udp well.udp is'
     by true true false is is' is'' = some_spot conns Sctp well.sctp is''

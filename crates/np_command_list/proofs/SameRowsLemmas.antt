@@ -6,7 +6,7 @@ use Rattle.std.specs.Cmp.{both_ways}
 use Rattle.np_command_list.specs.Prelude.{AgreeInFamilies, Controller, EstateLists, Family, Four, IsIngressRow, IsPairRow, IsPodOf, IsRowOf, Pod, PortSpot, Query, Row, RowEnd, RowKey, SayWhatPasses, Six, Work}
 use Rattle.np_model.proofs.FamilyLemmas.{same_family-itself}
 use Rattle.np_conns.specs.Prelude.{has_spot, is_spot}
-use Rattle.np_fold.specs.Prelude.{number_of}
+use Rattle.np_fold.specs.Prelude.{workload_number}
 use Rattle.np_model.specs.Prelude.{families_of, same_family}
 use Rattle.np_command_list.proofs.OneListLemmas.{AreToldAlike, any-from, any-to, from-kept, kept, has-head, one-of_rank, told-rank}
 use Rattle.np_command_list.proofs.RowPartLemmas.{Agree, agree-one, families-cases}
@@ -71,9 +71,9 @@ module _ (lists : EstateLists) (sender : Option ℕ) (query : Query) where
         is_spot spot ≡ true → allows_in (rows_between source destination rows) family spot ≡ between_pods lists p q family spot
     between-is rows say p q near far apart family spot among is =
         ap (λ (n : ℕ). allows_in (rows_between n destination rows) family spot) (sym near.1)
-        ∙ ap (λ (n : ℕ). allows_in (rows_between (number_of lists p) n rows) family spot) (sym far.1)
+        ∙ ap (λ (n : ℕ). allows_in (rows_between (workload_number lists p) n rows) family spot) (sym far.1)
         ∙ say.pods p q family spot near.0 far.0 apart among is
-        (ap (λ (n : ℕ). keeps query (pair_key n (number_of lists q))) near.1 ∙ ap (λ (n : ℕ). keeps query (pair_key source n)) far.1 ∙ asked)
+        (ap (λ (n : ℕ). keeps query (pair_key n (workload_number lists q))) near.1 ∙ ap (λ (n : ℕ). keeps query (pair_key source n)) far.1 ∙ asked)
 
     -- so the families agree for all pods of them, or for none
     agree-too : (rows : List Row) → Says rows → (row other : Row) (is : IsPairRow lists source destination row) (is' : IsPairRow lists source destination other) → AgreeInFamilies lists is.p is.q →
@@ -186,7 +186,7 @@ module _ (lists : EstateLists) (sender : Option ℕ) (query : Query) where
     ingress-among rows others say say' row has key =
         let is : IsIngressRow lists workload row = row-of rows say row (ingress_key workload) has key in
         let own : (list : List Row) → Says list → (spot : PortSpot) → is_spot spot ≡ true → allows_in (rows_from_controller workload list) Four spot ≡ allows_in
-        (rows_from_controller (number_of lists is.p) list) Four spot =
+        (rows_from_controller (workload_number lists is.p) list) Four spot =
         λ list say_so spot in_space. ap (λ (n : ℕ). allows_in (rows_from_controller n list) Four spot) (sym is.receiver.1) in
         let reached = ap (λ (n : ℕ). keeps query (ingress_key n)) is.receiver.1 ∙ asked in
         let same : (spot : PortSpot) → is_spot spot ≡ true → allows_in (rows_from_controller workload rows) Four spot ≡ allows_in (rows_from_controller workload others) Four spot = λ spot in_space.

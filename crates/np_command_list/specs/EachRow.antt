@@ -2,7 +2,7 @@
 use Rattle.std.specs.Prelude.{◌≡◌, ◌≢◌, ◌<◌, ◌≤◌, ◌+◌, ◌↔◌, ℕ, true, length, Contains}
 use Rattle.np_command_list.specs.Types.{AddressSpan, Controller, Direction, Egress, EstateLists, Family, Four, Ingress, PortSpot, Range, Row, RowEnd, Six, Span, Work}
 use Rattle.np_conns.specs.Prelude.{Conns, has_spot, is_spot}
-use Rattle.np_fold.specs.Prelude.{number_of}
+use Rattle.np_fold.specs.Prelude.{workload_number}
 use Rattle.np_model.specs.Prelude.{families_of}
 use Rattle.np_rules.specs.Prelude.{pod, pod_at}
 use Rattle.np_table.specs.Prelude.{AllowSamePorts, IsInFamily, IsUnmarked}
@@ -11,7 +11,7 @@ use Rattle.np_table.specs.declared.rows.AddressSpan.TheVariants as span
 
 -- a pod, by its place, is of the workload of a number
 abbrev pub IsPodOf : EstateLists → ℕ → ℕ → Type 0
-IsPodOf lists workload p = (p < length lists.pods) × (number_of lists p ≡ workload)
+IsPodOf lists workload p = (p < length lists.pods) × (workload_number lists p ≡ workload)
 
 -- some port passes
 abbrev pub LetSomePass : Conns → Type 0

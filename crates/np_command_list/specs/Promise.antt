@@ -5,7 +5,7 @@ use Rattle.np_command.specs.Prelude.{SinkTrace, TookWhole, lists_of}
 use Rattle.np_command_list.specs.EachRow.{IsRowOf}
 use Rattle.np_command_list.specs.RowOrder.{ComesBefore}
 use Rattle.np_conns.specs.Prelude.{is_spot}
-use Rattle.np_fold.specs.Prelude.{folding_of, number_of}
+use Rattle.np_fold.specs.Prelude.{folding_of, workload_number}
 use Rattle.np_model.specs.Prelude.{families_of}
 use Rattle.np_report.specs.Prelude.{keeps, names_of, report_text, texts_of}
 use Rattle.np_report.specs.declared.query.Query.TheVariants as query
@@ -34,15 +34,15 @@ query_for (Some workload) side = query.Work workload side
 -- have, or IPv4 where none has one.
 abbrev pub SaysPods : EstateLists → Query → List Row → Type 0
 SaysPods lists query rows = (p q : ℕ) (family : Family) (spot : PortSpot) → p < length lists.pods → q < length lists.pods → p ≢ q
-    → Contains (families_of lists.pods) family → is_spot spot ≡ true → keeps query (pair_key (number_of lists p) (number_of lists q)) ≡ true
-    → allows_in (rows_between (number_of lists p) (number_of lists q) rows) family spot ≡ between_pods lists p q family spot
+    → Contains (families_of lists.pods) family → is_spot spot ≡ true → keeps query (pair_key (workload_number lists p) (workload_number lists q)) ≡ true
+    → allows_in (rows_between (workload_number lists p) (workload_number lists q) rows) family spot ≡ between_pods lists p q family spot
 
 -- For every pod, direction and address of either family, where rows of the pod's workload and addresses are asked for, whatever
 -- range they have, there is exactly one whose range has the address, and it says exactly which ports the model allows between the two.
 abbrev pub SaysAddresses : EstateLists → Query → List Row → Type 0
 SaysAddresses lists query rows = (p : ℕ) (direction : Direction) (family : Family) (number : ℕ) (addresses : AddressSpan) → p < length lists.pods → IsInFamily family number
-    → keeps query (key_of (number_of lists p) direction (Span addresses)) ≡ true
-    → OneRowSays (number_of lists p) direction family number rows (with_address lists direction (pod (pod_at lists p)) family number)
+    → keeps query (key_of (workload_number lists p) direction (Span addresses)) ≡ true
+    → OneRowSays (workload_number lists p) direction family number rows (with_address lists direction (pod (pod_at lists p)) family number)
 
 -- For every pod, where rows from the controller of Ingresses to its workload are asked for, the rows say exactly which ports of
 -- the pod are reached through Ingresses by the sender: the controller that is named, or where none is, a pod without labels of no
@@ -50,8 +50,8 @@ SaysAddresses lists query rows = (p : ℕ) (direction : Direction) (family : Fam
 -- none is.
 abbrev pub SaysIngresses : EstateLists → Option ℕ → Query → List Row → Type 0
 SaysIngresses lists sender query rows = (p : ℕ) (family : Family) (spot : PortSpot) → p < length lists.pods → is_spot spot ≡ true
-    → keeps query (ingress_key (number_of lists p)) ≡ true → allows_in (rows_from_controller (number_of lists p) rows) family spot
-    ≡ (not (is_controller sender (number_of lists p)) && ingress_reaches lists (sender_of (folding_of lists) sender) p spot)
+    → keeps query (ingress_key (workload_number lists p)) ≡ true → allows_in (rows_from_controller (workload_number lists p) rows) family spot
+    ≡ (not (is_controller sender (workload_number lists p)) && ingress_reaches lists (sender_of (folding_of lists) sender) p spot)
 
 -- Each row is asked for, is of pods of the estate, and comes before those behind it; and together they say what the model allows.
 pub record SayWhatPasses (lists : EstateLists) (sender : Option ℕ) (query : Query) (rows : List Row) : Type 0 where

@@ -19,15 +19,15 @@ span_rank (span.Six range) = 1 ∷ range.lo ∷ []
 
 -- Pair rows by source, destination and mark; then address rows by workload, ingress before egress, and by range; then Ingress
 -- rows by workload.
-abbrev pub rank_of : RowEnd → RowEnd → Option Family → List ℕ
-rank_of (Work source) (Work destination) mark = 0 ∷ source ∷ destination ∷ mark_rank mark ∷ []
-rank_of (Span addresses) (Work destination) mark = 1 ∷ destination ∷ 0 ∷ span_rank addresses
-rank_of (Work source) (Span addresses) mark = 1 ∷ source ∷ 1 ∷ span_rank addresses
-rank_of Controller (Work destination) mark = 2 ∷ destination ∷ []
-rank_of source destination mark = []
+abbrev pub row_rank_of : RowEnd → RowEnd → Option Family → List ℕ
+row_rank_of (Work source) (Work destination) mark = 0 ∷ source ∷ destination ∷ mark_rank mark ∷ []
+row_rank_of (Span addresses) (Work destination) mark = 1 ∷ destination ∷ 0 ∷ span_rank addresses
+row_rank_of (Work source) (Span addresses) mark = 1 ∷ source ∷ 1 ∷ span_rank addresses
+row_rank_of Controller (Work destination) mark = 2 ∷ destination ∷ []
+row_rank_of source destination mark = []
 
 abbrev pub row_rank : Row → List ℕ
-row_rank row = rank_of row.key.source row.key.destination row.family
+row_rank row = row_rank_of row.key.source row.key.destination row.family
 
 -- where the ranks of two rows first differ, the first row has the lower number
 abbrev pub ComesBefore : Row → Row → Type 0

@@ -4,16 +4,16 @@ use Rattle.std.specs.List.{list_any, range_with_len}
 use Rattle.np_addr.specs.declared.address.Address.TheVariants as at
 use Rattle.np_addr.specs.declared.address.Family.TheVariants.{Six}
 use Rattle.np_command_sample.specs.Prelude.{Direction, Egress, Ingress, PortSpot, estate_net_policy, sample_estate}
-use Rattle.np_rules.specs.Prelude.{Contact, End, PodEnd, address, allows, is_isolated, net_places, net_places_of, net_selects, permits, placed_net_matches, pod, side_allows}
+use Rattle.np_rules.specs.Prelude.{Contact, ModelEnd, PodEnd, address, allows, is_isolated, net_places, net_places_of, net_selects, permits, placed_net_matches, pod, side_allows}
 use Rattle.np_kinds.specs.Prelude.{with_address}
 use Rattle.np_sample.specs.Prelude.{namespace_count}
 
 -- what passes between a far IPv6 address and some end
-abbrev six_contact : ℕ → End → PortSpot → Contact
+abbrev six_contact : ℕ → ModelEnd → PortSpot → Contact
 six_contact number destination spot = record { far = address (at.Six number); destination = destination; family = Six; spot = spot }
 
 -- no rule of a NetworkPolicy matches it
-permits-six : (direction : Direction) (p : PodEnd) (number : ℕ) (destination : End) (spot : PortSpot) (js : List ℕ) →
+permits-six : (direction : Direction) (p : PodEnd) (number : ℕ) (destination : ModelEnd) (spot : PortSpot) (js : List ℕ) →
     permits (map estate_net_policy js) direction p (six_contact number destination spot) ≡ false
 permits-six direction p number destination spot [] = refl
 permits-six direction p number destination spot (j ∷ js) = by direction (net_selects (estate_net_policy j) p) (permits-six direction p number destination spot js)
@@ -27,7 +27,7 @@ permits-six direction p number destination spot (j ∷ js) = by direction (net_s
     by Egress false rest = rest
 
 -- nor does the admin rule, so a pod's side allows it exactly where no policy isolates the pod
-side_allows-six : (n : ℕ) (direction : Direction) (p : PodEnd) (number : ℕ) (destination : End) (spot : PortSpot) →
+side_allows-six : (n : ℕ) (direction : Direction) (p : PodEnd) (number : ℕ) (destination : ModelEnd) (spot : PortSpot) →
     side_allows (sample_estate n) direction p (six_contact number destination spot) ≡ (if is_isolated (sample_estate n).net_policies direction p then false else true)
 unfolding side_allows
 side_allows-six n Ingress p number destination spot =

@@ -10,7 +10,7 @@ use Rattle.np_reading.proofs.LawfulLists.{AllLater}
 use Rattle.np_base.proofs.Each.{All-append}
 use Rattle.np_base.proofs.Bools.{not_both}
 use Rattle.np_command_sample.specs.Prelude.{Item, ObjectName}
-use Rattle.np_owners.specs.Prelude.{first_repeat, is_named, name_of, place_of, repeat_after, repeated}
+use Rattle.np_owners.specs.Prelude.{first_repeat, is_item_named, name_of_item, place_of, repeat_after, repeated}
 use Rattle.np_sample.specs.Prelude.{namespace_count}
 use Rattle.np_command_sample.proofs.LaterLemmas.{later-four}
 use Rattle.np_command_sample.proofs.Items.{admin_policy_item, namespace_item, net_policy_item, pod_item, sample_items}
@@ -19,31 +19,31 @@ use Rattle.np_command_sample.proofs.Items.{admin_policy_item, namespace_item, ne
 
 -- whether an item does not have the name of another
 abbrev is_apart : Item → Item → Bool
-is_apart before one = option_map_or (λ name. not (is_named name before)) (name_of one) true
+is_apart before one = option_map_or (λ name. not (is_item_named name before)) (name_of_item one) true
 
 abbrev IsApart : Item → Item → Type 0
 IsApart before one = is_apart before one ≡ true
 
-not_named : (name : ObjectName) (from : ℕ) (earlier : List Item) → AllByRecursion (λ before. not (is_named name before) ≡ true) earlier → position_from (is_named name) from earlier ≡ None
+not_named : (name : ObjectName) (from : ℕ) (earlier : List Item) → AllByRecursion (λ before. not (is_item_named name before) ≡ true) earlier → position_from (is_item_named name) from earlier ≡ None
 not_named name from [] all = refl
-not_named name from (before ∷ earlier) all = by (is_named name before) all.0 (not_named name (from + 1) earlier all.1)
+not_named name from (before ∷ earlier) all = by (is_item_named name before) all.0 (not_named name (from + 1) earlier all.1)
   where
-    by : (b : Bool) → not b ≡ true → position_from (is_named name) (from + 1) earlier ≡ None → cond b (Some from) (position_from (is_named name) (from + 1) earlier) ≡ None
+    by : (b : Bool) → not b ≡ true → position_from (is_item_named name) (from + 1) earlier ≡ None → cond b (Some from) (position_from (is_item_named name) (from + 1) earlier) ≡ None
     by true is rest = cc
     by false is rest = rest
 
 not_repeated : (earlier : List Item) (one : Item) → AllByRecursion (λ before. IsApart before one) earlier → repeated earlier one ≡ None
-not_repeated earlier one all = by (name_of one) refl
+not_repeated earlier one all = by (name_of_item one) refl
   where
-    same : (name : ObjectName) → name_of one ≡ Some name → (earlier : List Item) → AllByRecursion (λ before. IsApart before one) earlier →
-        AllByRecursion (λ before. not (is_named name before) ≡ true) earlier
+    same : (name : ObjectName) → name_of_item one ≡ Some name → (earlier : List Item) → AllByRecursion (λ before. IsApart before one) earlier →
+        AllByRecursion (λ before. not (is_item_named name before) ≡ true) earlier
     same name is [] all = tt
     same name is (before ∷ earlier) all = (rw is at all.0, same name is earlier all.1)
 
-    by : (o : Option ObjectName) → name_of one ≡ o → repeated earlier one ≡ None
+    by : (o : Option ObjectName) → name_of_item one ≡ o → repeated earlier one ≡ None
     by None is = rw is refl
     by (Some name) is =
-        let nowhere : place_of earlier name ≡ None = position_from-zero (is_named name) earlier ∙ not_named name 0 earlier (same name is earlier all) in
+        let nowhere : place_of earlier name ≡ None = position_from-zero (is_item_named name) earlier ∙ not_named name 0 earlier (same name is earlier all) in
         rw (is, nowhere) refl
 
 -- each item is apart from those before it

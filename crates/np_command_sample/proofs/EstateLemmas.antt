@@ -4,7 +4,7 @@ use Rattle.std.specs.List.{AllByRecursion, cons_option, filter_map, range_with_l
 use Rattle.std.specs.Option.{option_and_then, option_map_or, option_to_list}
 use Rattle.std.proofs.lemmas.List.Elements.{filter_map-append}
 use Rattle.np_base.proofs.Lists.{count-none}
-use Rattle.np_owners.specs.Prelude.{first_in_cycle, makes_pod, name_of, owner_of, owner_place, place_in_namespace, place_of, places, up, ups}
+use Rattle.np_owners.specs.Prelude.{first_in_cycle, makes_pod, name_of_item, owner_of_item, owner_place, place_in_namespace, place_of, places_of_owners, up, ups}
 use Rattle.np_owners.proofs.Owned.{owns_itself-none}
 use Rattle.np_reading.specs.Prelude.{context, count_left_out, is_for, is_left_out, labels_in, left_out, listed_labels, listed_pod, name_label, named_or_itself, namespace_name, pod_at_item, pods_from}
 use Rattle.np_command_sample.specs.Prelude.{Item, ObjectName, Pod}
@@ -47,13 +47,13 @@ nothing_then : (o : Option ObjectName) → option_and_then {U = ℕ} (λ name. N
 nothing_then None = refl
 nothing_then (Some name) = refl
 
-no_owners : (items rest : List Item) → AllByRecursion (λ one. owner_of one ≡ None) rest → AllByRecursion (λ o. o ≡ None) (map (owner_place items) rest)
+no_owners : (items rest : List Item) → AllByRecursion (λ one. owner_of_item one ≡ None) rest → AllByRecursion (λ o. o ≡ None) (map (owner_place items) rest)
 no_owners items [] all = tt
 no_owners items (one ∷ rest) all =
-    (ap (λ owner. option_and_then (place_in_namespace items owner) (name_of one)) all.0 ∙ nothing_then (name_of one), no_owners items rest all.1)
+    (ap (λ owner. option_and_then (place_in_namespace items owner) (name_of_item one)) all.0 ∙ nothing_then (name_of_item one), no_owners items rest all.1)
 
-pub first_in_cycle-none : (items : List Item) → AllByRecursion (λ one. owner_of one ≡ None) items → first_in_cycle items ≡ None
-first_in_cycle-none items all = rw (owns_itself-none (ups items) (none_in (ups items) (no_owners items items all)) (places (ups items))) refl
+pub first_in_cycle-none : (items : List Item) → AllByRecursion (λ one. owner_of_item one ≡ None) items → first_in_cycle items ≡ None
+first_in_cycle-none items all = rw (owns_itself-none (ups items) (none_in (ups items) (no_owners items items all)) (places_of_owners (ups items))) refl
 
 -- ---- what is left out
 

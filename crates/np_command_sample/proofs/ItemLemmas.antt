@@ -10,17 +10,17 @@ use Rattle.np_policies.specs.Prelude.{policy_by, policy_of}
 use Rattle.np_sample.specs.Objects as spec
 use Rattle.np_command_sample.proofs.ShapeLemmas.{labels-of, namespace-of}
 use Rattle.np_command_sample.proofs.WordLemmas.{is_name-numbered, is_word-numbered}
-use Rattle.np_command_sample.specs.Prelude.{one_label, ports_of}
+use Rattle.np_command_sample.specs.Prelude.{one_label, sample_ports}
 use Rattle.np_command_sample.proofs.Items.{namespace_item, pod_item}
 
-pub item_of-namespace : (number j : ℕ) → j < spec.namespace_count → item_of number (spec.namespace j) ≡ Ok (namespace_item j)
-unfolding item_of must_be_no_list type_meta required optional under must_be_object refuse_if policy_of policy_by object_of object_by namespaces.namespace namespaces.namespace_metadata
-item_of-namespace number j within = rw (name-read (spec.namespace_name j) (is_name-numbered 115 j refl refl (omega arith))) refl
+pub item_of-namespace : (number j : ℕ) → j < spec.namespace_count → item_of number (spec.sample_namespace j) ≡ Ok (namespace_item j)
+unfolding item_of must_be_no_list type_meta required optional under must_be_object refuse_if policy_of policy_by object_of object_by namespaces.namespace_object namespaces.namespace_metadata
+item_of-namespace number j within = rw (name-read (spec.sample_namespace_name j) (is_name-numbered 115 j refl refl (omega arith))) refl
 
 -- ---- pods
 
 read_metadata : (i : ℕ) → i < 2 ^ 64 →
-    pod_metadata (spec.pod_metadata i) ≡ Ok (record { own = record { namespace = spec.namespace_of i; name = spec.pod_name i }; labels = one_label (codes "app") (spec.app_of i); owner = None })
+    pod_metadata (spec.sample_pod_metadata i) ≡ Ok (record { own = record { namespace = spec.namespace_of i; name = spec.pod_name i }; labels = one_label (codes "app") (spec.app_of i); owner = None })
 unfolding pod_metadata required optional listed under must_be_object refuse_if namespaced_name label_map
 read_metadata i small =
     rw (
@@ -30,10 +30,10 @@ read_metadata i small =
           (spec.app_of i) (rw (is_word-numbered 97 (i % 7) refl (omega arith)) refl),
     ) refl
 
-read_spec : (i : ℕ) → pod_spec (spec.pod_spec (spec.port_of i)) ≡ Ok (record { ports = ports_of i; host_network = false })
+read_spec : (i : ℕ) → pod_spec (spec.sample_pod_spec (spec.sample_port i)) ≡ Ok (record { ports = sample_ports i; host_network = false })
 unfolding pod_spec required optional listed under must_be_object refuse_if container container_port port_name protocol_name word
-read_spec i = rw (port-read (spec.port_of i) (omega arith) (omega arith)) refl
+read_spec i = rw (port-read (spec.sample_port i) (omega arith) (omega arith)) refl
 
-pub item_of-pod : (number i : ℕ) → i < 2 ^ 64 → item_of number (spec.pod i) ≡ Ok (pod_item i)
+pub item_of-pod : (number i : ℕ) → i < 2 ^ 64 → item_of number (spec.sample_pod i) ≡ Ok (pod_item i)
 unfolding item_of must_be_no_list type_meta required optional under must_be_object refuse_if policy_of policy_by object_of object_by pods.pod
 item_of-pod number i small = rw (read_metadata i small, read_spec i) refl

@@ -3,10 +3,10 @@ use Rattle.std.proofs.Common.{◌≡◌, ℕ, ◌+◌, ◌≤◌, List, [], ◌�
 use Rattle.std.proofs.lemmas.List.FromFn.{length-map-range_with_len}
 use Rattle.std.specs.List.{AllByRecursion, AllZip}
 use Rattle.serde_json.specs.Data.{Data}
-use Rattle.np_items.specs.Prelude.{each_item, input_values, item_of, items_by, items_in, items_of, json_of, must_be_few, values}
+use Rattle.np_items.specs.Prelude.{input_values, item_of, items_by, items_from, items_in, items_of, json_of, must_be_few, values}
 use Rattle.np_command_sample.specs.Prelude.{Item}
 use Rattle.np_items.proofs.InputLemmas.{values-items_of}
-use Rattle.np_sample.specs.Prelude.{admin_policy, list_of, namespace, net_policy, pod, sample_objects, sample_text, sample_value}
+use Rattle.np_sample.specs.Prelude.{list_object, sample_admin_policy, sample_namespace, sample_net_policy, sample_objects, sample_pod, sample_text, sample_value}
 use Rattle.np_command_sample.proofs.ItemLemmas.{item_of-namespace, item_of-pod}
 use Rattle.np_sample.proofs.ListLemmas.{all-four}
 use Rattle.np_command_sample.proofs.LaterLemmas.{zip-four}
@@ -24,7 +24,7 @@ all-items P n namespaces pods policies admin = all-four P namespace_item pod_ite
 abbrev IsReadAs : Data → Item → Type 0
 IsReadAs value one = (number : ℕ) → item_of number value ≡ Ok one
 
-each_item-read : (values : List Data) (items : List Item) → AllZip IsReadAs values items → (number : ℕ) → each_item number values ≡ Ok items
+each_item-read : (values : List Data) (items : List Item) → AllZip IsReadAs values items → (number : ℕ) → items_from number values ≡ Ok items
 each_item-read [] [] all number = refl
 each_item-read [] (one ∷ items) all number = absurd all
 each_item-read (value ∷ values) [] all number = absurd all
@@ -33,7 +33,7 @@ each_item-read (value ∷ values) (one ∷ items) all number = rw (all.0 number,
 objects_read : (n : ℕ) → n ≤ 1000 → AllZip IsReadAs (sample_objects n) (sample_items n)
 objects_read n few =
     let policies = net_policies_read in
-    zip-four IsReadAs namespace pod net_policy admin_policy namespace_item pod_item net_policy_item admin_policy_item n (λ j within number. item_of-namespace number j within)
+    zip-four IsReadAs sample_namespace sample_pod sample_net_policy sample_admin_policy namespace_item pod_item net_policy_item admin_policy_item n (λ j within number. item_of-namespace number j within)
     (λ i within number. item_of-pod number i (omega arith))
     (policies.0, (policies.1, (policies.2, (policies.3, (policies.4, tt))))) item_of-admin_policy
 
@@ -41,15 +41,15 @@ objects_read n few =
 
 pub length-objects : (n : ℕ) → length (sample_objects n) ≡ n + 11
 length-objects n =
-    simp length-append (omega (arith, length-map-range_with_len pod 0 n))
+    simp length-append (omega (arith, length-map-range_with_len sample_pod 0 n))
 
-list_gives : (objects : List Data) → items_in 1 (list_of objects) ≡ Ok objects
+list_gives : (objects : List Data) → items_in 1 (list_object objects) ≡ Ok objects
 unfolding items_in items_by
 list_gives objects = rw (values-items_of objects) refl
 
 -- one input
 items_of-one : (text : List ℕ) (value : Data) (objects : List Data) (items : List Item) → json_of text ≡ Some value → items_in 1 value ≡ Ok objects → length objects ≤ 20000 →
-    each_item 1 objects ≡ Ok items → items_of (text ∷ []) ≡ Ok items
+    items_from 1 objects ≡ Ok items → items_of (text ∷ []) ≡ Ok items
 unfolding items_of input_values must_be_few
 items_of-one text value objects items parsed listed few read =
     rw (parsed, listed, append-nil objects, le-leb (length objects) 20000 few, read) refl

@@ -8,7 +8,7 @@ use Rattle.json.specs.Token.{Token}
 use Rattle.serde_json.specs.Data.{Data, null, boolean, number, string, array, object, Items, no_items, item, Members, no_members, member}
 use Rattle.serde_json.specs.View.{items_of}
 use Rattle.serde_json.specs.Written.{comma_if, compact_text, items_text, members_text, number_text}
-use Rattle.np_sample.specs.Prelude.{admin_policy, namespace, namespace_count, net_policy, next_of, pod, port_of, sample_objects, sample_text, sample_value}
+use Rattle.np_sample.specs.Prelude.{namespace_count, next_of, sample_admin_policy, sample_namespace, sample_net_policy, sample_objects, sample_pod, sample_port, sample_text, sample_value}
 use Rattle.np_sample.proofs.ObjectLemmas.{all-objects}
 use Rattle.np_command_sample.proofs.ReadingLemmas.{length-objects}
 use Rattle.np_command_sample.proofs.RowCountLemmas.{length-flat_map-le}
@@ -103,18 +103,18 @@ IsSmall value = most_bytes value ≤ 5000
 digits-few : (n : ℕ) → n < 10000 → length (decimal n) ≤ 4
 digits-few n small = length-decimal-le 4 n (omega arith) (omega (arith, small)) (omega (arith, small))
 
-small-namespace : (j : ℕ) → j < namespace_count → IsSmall (namespace j)
+small-namespace : (j : ℕ) → j < namespace_count → IsSmall (sample_namespace j)
 small-namespace j within = let digits = digits-few j (omega arith) in omega arith
 
-small-pod : (i : ℕ) → i < 1000 → IsSmall (pod i)
+small-pod : (i : ℕ) → i < 1000 → IsSmall (sample_pod i)
 small-pod i within =
     let app = digits-few (i % 7) (omega arith) in
     let name = digits-few i (omega arith) in
     let space = digits-few (i % 5) (omega arith) in
-    let port = digits-few (port_of i) (omega arith) in
+    let port = digits-few (sample_port i) (omega arith) in
     omega arith
 
-small-policy : (j : ℕ) → j < namespace_count → IsSmall (net_policy j)
+small-policy : (j : ℕ) → j < namespace_count → IsSmall (sample_net_policy j)
 small-policy j within =
     let own = digits-few j (omega arith) in
     let next = digits-few (next_of j) (omega arith) in
@@ -122,7 +122,7 @@ small-policy j within =
     let block = length-append (decimal j) (codes ".0.0/16") in
     omega arith
 
-small-admin : IsSmall admin_policy
+small-admin : IsSmall sample_admin_policy
 small-admin = let priority = digits-few 10 (omega arith) in omega arith
 
 -- ---- the whole

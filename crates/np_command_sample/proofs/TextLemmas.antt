@@ -11,7 +11,7 @@ use Rattle.serde_json.specs.Written.{compact_text, outline}
 use Rattle.serde_json.proofs.Numbers.{number_of-decimal}
 use Rattle.np_items.specs.Prelude.{json_of}
 use Rattle.np_items.proofs.InputLemmas.{json_of-read}
-use Rattle.np_sample.specs.Prelude.{admin_policy, namespace, namespace_count, net_policy, next_of, pod, port_of, sample_objects, sample_text, sample_value}
+use Rattle.np_sample.specs.Prelude.{namespace_count, next_of, sample_admin_policy, sample_namespace, sample_net_policy, sample_objects, sample_pod, sample_port, sample_text, sample_value}
 use Rattle.np_sample.proofs.ObjectLemmas.{all-objects}
 use Rattle.np_command_sample.proofs.PlainLemmas.{all_given, all_plain_items, all_shallow, is_plain, IsGiven, IsPlain, IsUtf8-compact_text, read-compact_text}
 
@@ -30,26 +30,26 @@ are_ascii-append (x ∷ s) t front rest =
 ascii_digits : (n : ℕ) → n < 2 ^ 64 → are_ascii (decimal n) ≡ true
 ascii_digits n small = are_ascii-from_IsAscii (decimal n) (IsAscii-decimal n small)
 
-plain_namespace : (j : ℕ) → j < namespace_count → IsPlain (namespace j)
+plain_namespace : (j : ℕ) → j < namespace_count → IsPlain (sample_namespace j)
 plain_namespace j within = rw (ascii_digits j (omega arith)) refl
 
-plain_pod : (i : ℕ) → i < 2 ^ 64 → IsPlain (pod i)
-plain_pod i small = rw (ascii_digits (i % 7) (omega arith), ascii_digits i small, ascii_digits (i % 5) (omega arith), lt-ltb (port_of i) (2 ^ 64) (omega arith)) refl
+plain_pod : (i : ℕ) → i < 2 ^ 64 → IsPlain (sample_pod i)
+plain_pod i small = rw (ascii_digits (i % 7) (omega arith), ascii_digits i small, ascii_digits (i % 5) (omega arith), lt-ltb (sample_port i) (2 ^ 64) (omega arith)) refl
 
-plain_policy : (j : ℕ) → j < namespace_count → IsPlain (net_policy j)
+plain_policy : (j : ℕ) → j < namespace_count → IsPlain (sample_net_policy j)
 plain_policy j within =
     let digits = ascii_digits j (omega arith) in
     rw (digits, ascii_digits (next_of j) (omega arith), are_ascii-append (decimal j) (codes ".0.0/16") digits refl) refl
 
 -- ---- numbers
 
-given_pod : (i : ℕ) → IsGiven (pod i)
-given_pod i = rw (number_of-decimal (port_of i) (omega arith)) refl
+given_pod : (i : ℕ) → IsGiven (sample_pod i)
+given_pod i = rw (number_of-decimal (sample_port i) (omega arith)) refl
 
-given_policy : (j : ℕ) → IsGiven (net_policy j)
+given_policy : (j : ℕ) → IsGiven (sample_net_policy j)
 given_policy j = rw (number_of-decimal 443 (omega arith)) refl
 
-given_admin : IsGiven admin_policy
+given_admin : IsGiven sample_admin_policy
 given_admin = rw (number_of-decimal 10 (omega arith)) refl
 
 -- ---- the whole

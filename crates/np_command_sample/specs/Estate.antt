@@ -16,7 +16,7 @@ use Rattle.np_model.specs.declared.admin_policy.AdminRule.{AdminRule}
 use Rattle.np_model.specs.declared.network_policy.NetPeer.TheVariants as net_peer
 use Rattle.np_model.specs.declared.network_policy.NetPort.TheVariants as net_port
 use Rattle.np_model.specs.declared.network_policy.NetRule.{NetRule}
-use Rattle.np_sample.specs.Prelude.{app_of, namespace_count, namespace_name, namespace_of, next_of, pod_name, port_of}
+use Rattle.np_sample.specs.Prelude.{app_of, namespace_count, namespace_of, next_of, pod_name, sample_namespace_name, sample_port}
 
 -- ---- parts
 
@@ -25,14 +25,14 @@ abbrev pub one_label : List ℕ → List ℕ → List Pair
 one_label key value = record { key = key; value = value } ∷ []
 
 -- the selector of what has that label
-abbrev pub selector_of : List ℕ → List ℕ → Selector
-selector_of key value = record { requirements = label_requirement (key, value) ∷ [] }
+abbrev pub label_selector : List ℕ → List ℕ → Selector
+label_selector key value = record { requirements = label_requirement (key, value) ∷ [] }
 
 -- ---- pods
 
 -- the port of a pod
-abbrev pub ports_of : ℕ → List NamedPort
-ports_of i = record { name = codes "http"; proto = Tcp; number = port_of i } ∷ []
+abbrev pub sample_ports : ℕ → List NamedPort
+sample_ports i = record { name = codes "http"; proto = Tcp; number = sample_port i } ∷ []
 
 -- a pod: its namespace has the label of its name alone, and no one owns the pod but itself
 abbrev pub estate_pod : ℕ → Pod
@@ -41,7 +41,7 @@ estate_pod i = record {
   namespace_labels = one_label (codes "kubernetes.io/metadata.name") (namespace_of i);
   name = pod_name i;
   labels = one_label (codes "app") (app_of i);
-  ports = ports_of i;
+  ports = sample_ports i;
   addresses = [];
   owner = record { kind = codes "Pod"; name = pod_name i };
   listed = true;
@@ -52,22 +52,22 @@ estate_pod i = record {
 -- the pods of a namespace, on the port that the receiver calls `http`
 abbrev pub from_pods : ℕ → NetRule
 from_pods k = record {
-  peers = net_peer.Pods (Some (selector_of (codes "kubernetes.io/metadata.name") (namespace_name k))) None ∷ [];
+  peers = net_peer.Pods (Some (label_selector (codes "kubernetes.io/metadata.name") (sample_namespace_name k))) None ∷ [];
   ports = net_port.Named Tcp (codes "http") ∷ [];
 }
 
 -- 10.j.0.0/16
-abbrev pub block_of : ℕ → Cidr
-block_of j = cidr.Four (10 * 2 ^ 24 + j * 2 ^ 16) 16
+abbrev pub sample_block : ℕ → Cidr
+sample_block j = cidr.Four (10 * 2 ^ 24 + j * 2 ^ 16) 16
 
 -- the addresses of a block, on the port 443
 abbrev pub from_addresses : ℕ → NetRule
-from_addresses j = record { peers = net_peer.Block (block_of j) [] ∷ []; ports = net_port.Span Tcp 443 443 ∷ [] }
+from_addresses j = record { peers = net_peer.Block (sample_block j) [] ∷ []; ports = net_port.Span Tcp 443 443 ∷ [] }
 
 -- what comes in to the pods of a namespace
 abbrev pub estate_net_policy : ℕ → NetPolicy
 estate_net_policy j = record {
-  namespace = namespace_name j;
+  namespace = sample_namespace_name j;
   name = codes "next";
   subject = everything;
   ingress = Some (from_pods (next_of j) ∷ from_addresses j ∷ []);
@@ -76,7 +76,7 @@ estate_net_policy j = record {
 
 -- nothing comes in from the pods whose label `app` is `a6`
 abbrev pub deny_pods : AdminRule
-deny_pods = record { action = Deny; peers = admin_peer.Pods everything (selector_of (codes "app") (codes "a6")) ∷ []; ports = [] }
+deny_pods = record { action = Deny; peers = admin_peer.Pods everything (label_selector (codes "app") (codes "a6")) ∷ []; ports = [] }
 
 -- of all pods
 abbrev pub estate_admin_policy : AdminPolicy

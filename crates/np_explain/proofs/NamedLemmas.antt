@@ -19,7 +19,7 @@ use Rattle.np_explain.proofs.TextLemmas.{decider_text-one}
 use Rattle.np_model.specs.declared.network_policy.NetRule.{NetRule}
 use Rattle.np_rules.proofs.DeciderLemmas.{least_is_among}
 use Rattle.np_rules.proofs.PlacesLemmas.{length-numbered}
-use Rattle.np_rules.specs.Prelude.{Contact, End, PlacedAdminRule, PlacedBaseRule, PlacedNetRule, PodEnd, action_decides, address, admin_decider, admin_decides, admin_places, admin_precedes, admin_rule_matches, admin_rule_name, admin_rules_of, base_decider, base_decides, base_places, base_rule_name, base_rules_of, contact_of, decider, end_of, end_rule_count, is_isolated, isolates, isolating_names, least_by, lower_decider, net_decider, net_decides, net_places, net_policy_name, net_precedes, net_rule_name, net_rules_of, net_selects, placed_net_matches, pod, rule_count, subject_selects}
+use Rattle.np_rules.specs.Prelude.{Contact, ModelEnd, PlacedAdminRule, PlacedBaseRule, PlacedNetRule, PodEnd, action_decides, address, admin_decider, admin_decides, admin_places, admin_precedes, admin_rule_matches, admin_rule_name, admin_rules_of, base_decider, base_decides, base_places, base_rule_name, base_rules_of, contact_of, decider, end_of, end_rule_count, is_isolated, isolates, isolating_names, least_by, lower_decider, net_decider, net_decides, net_places, net_policy_name, net_precedes, net_rule_name, net_rules_of, net_selects, placed_net_matches, pod, rule_count, subject_selects}
 use Rattle.np_rules.proofs.PolicyRulesLemmas.{placed_admin}
 
 -- ---- names
@@ -255,7 +255,7 @@ module _ (lists : EstateLists) (direction : Direction) (p : PodEnd) (contact : C
       (All-filter (λ placed. admin_rule_matches placed.rule contact) AdminIs (admin_places lists.admin_policies direction p) of_admin))
       lower-well
 
-pub decider-well : (lists : EstateLists) (direction : Direction) (end : End) (contact : Contact) → is_well lists ≡ true → end_rule_count lists direction end < 2 ^ 64
+pub decider-well : (lists : EstateLists) (direction : Direction) (end : ModelEnd) (contact : Contact) → is_well lists ≡ true → end_rule_count lists direction end < 2 ^ 64
     → is_well_named (decider lists direction end contact) ≡ true
 decider-well lists direction (pod p) contact well few = side-well lists direction p contact well few
 decider-well lists direction (address a) contact well few = refl
@@ -276,7 +276,7 @@ parts-well lists direction source destination family parts well few right = λ k
     let spot = filled.0 in
     let packet = packet_between lists source destination family spot in
     let decides = (right.spots k d within spot (has_spot-is_spot _ spot (right.well k d within) filled.1)).0 filled.1 in
-    let few_here = subst (λ (end : End). end_rule_count lists direction end < 2 ^ 64) (sym (end-is lists direction source destination family spot)) few in
+    let few_here = subst (λ (end : ModelEnd). end_rule_count lists direction end < 2 ^ 64) (sym (end-is lists direction source destination family spot)) few in
     subst (λ (d' : Decider). is_well_named d' ≡ true) decides (decider-well lists direction (end_at direction packet) (contact_of direction packet) well few_here)
 
 pub texts-apart : (lists : EstateLists) (direction : Direction) (source destination : PlacedEnd) (family : Family) (parts : List Part)

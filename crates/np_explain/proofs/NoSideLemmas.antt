@@ -2,7 +2,7 @@
 use Rattle.std.proofs.Common.{◌≡◌, ◌↔◌, ℕ, List, Bool, true, false, IsTrue, Option, Some, None, refl, sym, ap, ◌∙◌, if◌then◌else◌}
 use Rattle.std.proofs.lemmas.Bool.{false≢true}
 use Rattle.np_explain.specs.Prelude.{Action, Allow, Decider, Deny, Direction, EstateLists, Pass, RuleName, is_address}
-use Rattle.np_rules.specs.Prelude.{Contact, End, PlacedAdminRule, PlacedBaseRule, PlacedNetRule, PodEnd, action_decides, address, admin_decider, admin_decides, admin_rule_name, base_decider, base_decides, decider, is_isolated, isolating_names, lower_decider, net_decider, net_decides, pod}
+use Rattle.np_rules.specs.Prelude.{Contact, ModelEnd, PlacedAdminRule, PlacedBaseRule, PlacedNetRule, PodEnd, action_decides, address, admin_decider, admin_decides, admin_rule_name, base_decider, base_decides, decider, is_isolated, isolating_names, lower_decider, net_decider, net_decides, pod}
 use Rattle.np_rules.specs.declared.decider.Decider.TheVariants as decider
 
 abbrev has_no_side : Decider → Bool
@@ -41,7 +41,7 @@ admin_decides_it : (found : Option PlacedAdminRule) (lower : Option RuleName →
 admin_decides_it None lower lowers = lowers None
 admin_decides_it (Some placed) lower lowers = action_decides_it placed.rule.action (admin_rule_name placed) lower lowers
 
-pub no_side : (lists : EstateLists) (direction : Direction) (end : End) (contact : Contact) → IsTrue (is_address end) ↔ (decider lists direction end contact ≡ decider.NoSide)
+pub no_side : (lists : EstateLists) (direction : Direction) (end : ModelEnd) (contact : Contact) → IsTrue (is_address end) ↔ (decider lists direction end contact ≡ decider.NoSide)
 no_side lists direction (address a) contact = (λ is. refl, λ same. refl)
 no_side lists direction (pod p) contact = (
   λ is. absurd (false≢true is),

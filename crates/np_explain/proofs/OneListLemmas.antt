@@ -6,10 +6,10 @@ use Rattle.std.specs.List.{list_any}
 use Rattle.std.proofs.lemmas.Bool.{false≢true}
 use Rattle.std.proofs.lemmas.List.Elements.{All-head, All-tail}
 use Rattle.np_base.proofs.Lists.{AllPairs-head, AllPairs-tail}
-use Rattle.np_explain.specs.Prelude.{AreRightParts, Decider, Direction, Egress, End, EstateLists, Family, Ingress, Part, PortSpot, StartsBefore, decider_at, decider_between, end_at, packet_between, some_has}
+use Rattle.np_explain.specs.Prelude.{AreRightParts, Decider, Direction, Egress, End, EstateLists, Family, Ingress, Part, PortSpot, StartsBefore, decider_at, decider_between, end_at, packet_between, some_part_has}
 use Rattle.np_conns.specs.Prelude.{Conns, IsConns, equal_by_spots, has_spot, has_spot-is_spot, is_spot}
 use Rattle.np_rules.proofs.DeciderLemmas.{decider_says}
-use Rattle.np_rules.specs.Prelude.{IsAmong, Packet, allows, contact_of, decider_allows, end_allows}
+use Rattle.np_rules.specs.Prelude.{IsAmong, ModelPacket, allows, contact_of, decider_allows, end_allows}
 
 -- ---- lists in a strict order
 
@@ -63,11 +63,11 @@ starts_strictly = record {
 }
 
 -- some part among them has the spot
-some_among : (spot : PortSpot) (parts : List Part) → some_has spot parts ≡ true → (part : Part) × IsAmong part parts × (has_spot part.conns spot ≡ true)
+some_among : (spot : PortSpot) (parts : List Part) → some_part_has spot parts ≡ true → (part : Part) × IsAmong part parts × (has_spot part.conns spot ≡ true)
 some_among spot [] has = absurd (false≢true has)
 some_among spot (part ∷ parts) has = go (has_spot part.conns spot) refl has (λ some. some_among spot parts some)
   where
-    go : (b : Bool) → has_spot part.conns spot ≡ b → (b || some_has spot parts) ≡ true → (some_has spot parts ≡ true → (one : Part) × IsAmong one parts × (has_spot one.conns spot ≡ true)) →
+    go : (b : Bool) → has_spot part.conns spot ≡ b → (b || some_part_has spot parts) ≡ true → (some_part_has spot parts ≡ true → (one : Part) × IsAmong one parts × (has_spot one.conns spot ≡ true)) →
         (one : Part) × IsAmong one (part ∷ parts) × (has_spot one.conns spot ≡ true)
     go true is some later = (part, inl refl, is)
     go false is some later = let found = later some in (found.0, inr found.1, found.2)
@@ -165,7 +165,7 @@ parts_say lists direction source destination family parts right = λ k d within 
     let packet = packet_between lists source destination family spot in
     sym (ap decider_allows ((right.spots k d within spot inside).0 has)) ∙ decider_says lists direction (end_at direction packet) (contact_of direction packet)
 
-pub both_say : (lists : EstateLists) (packet : Packet) → allows lists packet ≡ (decider_allows (decider_at lists Egress packet) && decider_allows (decider_at lists Ingress packet))
+pub both_say : (lists : EstateLists) (packet : ModelPacket) → allows lists packet ≡ (decider_allows (decider_at lists Egress packet) && decider_allows (decider_at lists Ingress packet))
 unfolding allows
 both_say lists packet =
     ap (λ (b : Bool). b && end_allows lists Ingress packet.destination (contact_of Ingress packet)) (sym (decider_says lists Egress packet.source (contact_of Egress packet)))

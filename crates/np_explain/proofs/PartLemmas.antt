@@ -10,7 +10,7 @@ use Rattle.std.proofs.lemmas.List.Sorted.{All-permutation, IsPermutation-map, li
 use Rattle.std.proofs.lemmas.Option.{slice_get_cases}
 use Rattle.std.proofs.lemmas.Map.Keys.{IsDistinct-IsPermutation, IsDistinct-from_apart, IsStrictlyIncreasing-from_distinct}
 use Rattle.np_conns.specs.Prelude.{Conns, IsConns, has_spot, has_spot-is_spot, is_spot}
-use Rattle.np_explain.specs.Prelude.{AreRightParts, Decider, IsMarkOf, Layer, Mark, Marked, Part, PortSpot, StartsBefore, first_number, mark_decider, named_part, some_has}
+use Rattle.np_explain.specs.Prelude.{AreRightParts, Decider, IsMarkOf, Layer, Mark, Marked, Part, PortSpot, StartsBefore, first_number, mark_decider, named_part, some_part_has}
 use Rattle.np_model.specs.Prelude.{IsLawful}
 use Rattle.np_explain.proofs.FirstLemmas.{first_is, numbers_tell}
 use Rattle.np_explain.proofs.MarkLemmas.{marks_told}
@@ -29,12 +29,12 @@ pub record IsCarved (layer : Layer Conns) (entries : List (Marked Conns)) : Type
 
 -- where the marks at a spot are not none, some part has it
 some_marked : (side : PodSide) (spot : PortSpot) (m : Mark) (entries : List (Marked Conns)) → marks_at (λ set. has_spot set spot) entries ≡ m ∷ [] →
-    some_has spot (map (named_part side) entries) ≡ true
+    some_part_has spot (map (named_part side) entries) ≡ true
 some_marked side spot m [] marks = cc
 some_marked side spot m (entry ∷ entries) marks = go (has_spot entry.set spot) marks (λ is. some_marked side spot m entries is)
   where
     go : (b : Bool) → map (λ e. e.mark) (if b then entry ∷ filter (λ e. has_spot e.set spot) entries else filter (λ e. has_spot e.set spot) entries) ≡ m ∷ [] →
-        (map (λ e. e.mark) (filter (λ e. has_spot e.set spot) entries) ≡ m ∷ [] → some_has spot (map (named_part side) entries) ≡ true) → (b || some_has spot (map (named_part side) entries)) ≡ true
+        (map (λ e. e.mark) (filter (λ e. has_spot e.set spot) entries) ≡ m ∷ [] → some_part_has spot (map (named_part side) entries) ≡ true) → (b || some_part_has spot (map (named_part side) entries)) ≡ true
     go true is later = refl
     go false is later = later is
 

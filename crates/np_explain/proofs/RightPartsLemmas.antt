@@ -8,7 +8,7 @@ use Rattle.std.specs.List.{Contains, list_any}
 use Rattle.np_base.proofs.Lists.{AllPairs-head, AllPairs-tail, Contains-later}
 use Rattle.np_addr.proofs.Pairs.{AllPairs-nil}
 use Rattle.np_conns.specs.Prelude.{IsConns, has_spot, has_spot-is_spot, is_spot}
-use Rattle.np_explain.specs.Prelude.{AreRightParts, Decider, Part, PortSpot, StartsBefore, all_spots, each_once, part_of, parts_of, same_decider, spot_number}
+use Rattle.np_explain.specs.Prelude.{AreRightParts, Decider, Part, PortSpot, StartsBefore, all_spots, each_decider_once, part_of, parts_of, same_decider, spot_number}
 use Rattle.np_conns.proofs.ConnLemmas.{conns_of-has, conns_of-well}
 use Rattle.np_explain.proofs.OneListLemmas.{one_is_right}
 use Rattle.np_explain.proofs.PartLemmas.{AllPairs-map}
@@ -45,8 +45,8 @@ module _ (decides : PortSpot → Decider) where
   differs : (a b : Decider) → not (same_decider a b) ≡ true → a ≢ b
   differs a b = (Decides-not (same_decider a b) (same_decider-Decides a b)).0
 
-  once_ordered : (spots : List PortSpot) → AllPairs IsBefore spots → AllPairs (LeadsIn spots) (each_once (map decides spots))
-  unfolding each_once
+  once_ordered : (spots : List PortSpot) → AllPairs IsBefore spots → AllPairs (LeadsIn spots) (each_decider_once (map decides spots))
+  unfolding each_decider_once
   once_ordered [] ascend = AllPairs-nil (LeadsIn [])
   once_ordered (spot ∷ spots) ascend =
       AllPairs-cons (LeadsIn (spot ∷ spots)) (decides spot) (filter other_test others)
@@ -56,7 +56,7 @@ module _ (decides : PortSpot → Decider) where
       (differs (decides spot) _ (filter_passes other_test others j d below)))
     where
       others : List Decider
-      others = each_once (map decides spots)
+      others = each_decider_once (map decides spots)
 
       other_test : Decider → Bool
       other_test other = not (same_decider (decides spot) other)
@@ -86,27 +86,27 @@ module _ (decides : PortSpot → Decider) where
           first later (suc k, within, is) same = lead.first later (k, omega arith, is) same
 
   -- what decides some spot of the list is among them
-  once_has : (spots : List PortSpot) (spot : PortSpot) → Contains spots spot → Contains (each_once (map decides spots)) (decides spot)
-  unfolding each_once
+  once_has : (spots : List PortSpot) (spot : PortSpot) → Contains spots spot → Contains (each_decider_once (map decides spots)) (decides spot)
+  unfolding each_decider_once
   once_has [] spot (k, within, is) = absurd (omega arith)
   once_has (next ∷ spots) spot (zero, within, is) = (zero, omega arith, ap decides is)
   once_has (next ∷ spots) spot (suc k, within, is) = go (same_decider (decides next) (decides spot)) refl (once_has spots spot (k, omega arith, is))
     where
-      go : (b : Bool) → same_decider (decides next) (decides spot) ≡ b → Contains (each_once (map decides spots)) (decides spot) →
-          Contains (decides next ∷ filter (λ other. not (same_decider (decides next) other)) (each_once (map decides spots))) (decides spot)
+      go : (b : Bool) → same_decider (decides next) (decides spot) ≡ b → Contains (each_decider_once (map decides spots)) (decides spot) →
+          Contains (decides next ∷ filter (λ other. not (same_decider (decides next) other)) (each_decider_once (map decides spots))) (decides spot)
       go true same has = (zero, omega arith, (same_decider-Decides (decides next) (decides spot)).0 same)
-      go false other has = Contains-later (decides spot) (decides next) _ (Contains-filter (λ d. not (same_decider (decides next) d)) (decides spot) (each_once (map decides spots)) has (ap not other))
+      go false other has = Contains-later (decides spot) (decides next) _ (Contains-filter (λ d. not (same_decider (decides next) d)) (decides spot) (each_decider_once (map decides spots)) has (ap not other))
 
   -- and each of them decides some spot of the list
-  once_decide : (spots : List PortSpot) → All (λ decider. (spot : PortSpot) × Contains spots spot × (decides spot ≡ decider)) (each_once (map decides spots))
-  unfolding each_once
+  once_decide : (spots : List PortSpot) → All (λ decider. (spot : PortSpot) × Contains spots spot × (decides spot ≡ decider)) (each_decider_once (map decides spots))
+  unfolding each_decider_once
   once_decide [] = All-nil _
   once_decide (next ∷ spots) =
       All-cons (λ decider. (spot : PortSpot) × Contains (next ∷ spots) spot × (decides spot ≡ decider)) (decides next) _
       (next, (zero, omega arith, refl), refl)
-      (All-filter _ (λ decider. (spot : PortSpot) × Contains (next ∷ spots) spot × (decides spot ≡ decider)) (each_once (map decides spots))
+      (All-filter _ (λ decider. (spot : PortSpot) × Contains (next ∷ spots) spot × (decides spot ≡ decider)) (each_decider_once (map decides spots))
       (All-weaker (λ decider. (spot : PortSpot) × Contains spots spot × (decides spot ≡ decider)) (λ decider. (spot : PortSpot) × Contains (next ∷ spots) spot × (decides spot ≡ decider))
-      (λ decider found. (found.0, Contains-later found.0 next spots found.1, found.2)) (each_once (map decides spots)) (once_decide spots)))
+      (λ decider found. (found.0, Contains-later found.0 next spots found.1, found.2)) (each_decider_once (map decides spots)) (once_decide spots)))
 
 -- ---- the parts
 
@@ -124,7 +124,7 @@ module _ (decides : PortSpot → Decider) where
   part_well decider = conns_of-well (λ spot. same_decider (decides spot) decider)
 
   deciders : List Decider
-  deciders = each_once (map decides all_spots)
+  deciders = each_decider_once (map decides all_spots)
 
   starts : (one other : Decider) → LeadsIn decides all_spots one other → StartsBefore (part_of decides one).conns (part_of decides other).conns
   starts one other lead = record {

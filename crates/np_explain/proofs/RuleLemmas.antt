@@ -12,7 +12,7 @@ use Rattle.std.proofs.lemmas.List.Elements.{All-nil, recursion_from_All}
 use Rattle.std.proofs.lemmas.Slice.Eq.{bytes_eq-Decides}
 use Rattle.np_base.proofs.Lists.{AllPairs-head, AllPairs-tail}
 use Rattle.np_addr.proofs.Pairs.{AllPairs-nil}
-use Rattle.np_model.specs.Prelude.{AreNamesApart, StandsBefore, comes_before}
+use Rattle.np_model.specs.Prelude.{AreNamesApart, PolicyStandsBefore, decides_before}
 use Rattle.np_explain.specs.Prelude.{AdminPolicy, BasePolicy, Direction, NetPolicy, RuleName}
 use Rattle.np_rules.specs.Prelude.{Contact, PlacedAdminRule, PlacedNetRule, PodEnd, admin_places, admin_places_of, admin_rule_name, admin_rules_of, base_places, base_rule_name, base_rules_of, net_decider, net_places, net_places_of, net_precedes, net_rule_name, net_rules_of, net_selects, placed_net_matches, subject_selects}
 use Rattle.np_rules.proofs.AdminTierLemmas.{IsInOrder, least_is_first, places_by as admin_places_by}
@@ -65,14 +65,14 @@ one_net p policy x y of_x of_y below =
       namespace = ap space same;
     }
 
-stands_less : (first second : Ordering) → first ≡ Equal → comes_before first second ≡ true → second ≡ Less
+stands_less : (first second : Ordering) → first ≡ Equal → decides_before first second ≡ true → second ≡ Less
 stands_less Equal Less is before = refl
 stands_less Equal Equal is before = absurd (false≢true before)
 stands_less Equal Greater is before = absurd (false≢true before)
 stands_less Less second is before = cc
 stands_less Greater second is before = cc
 
-two_nets : (p : PodEnd) (a b : NetPolicy) (x y : PlacedNetRule) → StandsBefore a b → IsNetOf p a x → IsNetOf p b y → Before x y
+two_nets : (p : PodEnd) (a b : NetPolicy) (x y : PlacedNetRule) → PolicyStandsBefore a b → IsNetOf p a x → IsNetOf p b y → Before x y
 two_nets p a b x y stands of_x of_y =
     let name : NetPolicy → List ℕ = λ q. q.name in
     let space : NetPolicy → List ℕ = λ q. q.namespace in
@@ -86,9 +86,9 @@ two_nets p a b x y stands of_x of_y =
       namespace = ap space of_x.owner ∙ spaces ∙ sym (ap space of_y.owner);
     }
 
-all_nets : (policies : List NetPolicy) (direction : Direction) (p : PodEnd) → AllPairs StandsBefore policies → AllPairs Before (net_places policies direction p)
+all_nets : (policies : List NetPolicy) (direction : Direction) (p : PodEnd) → AllPairs PolicyStandsBefore policies → AllPairs Before (net_places policies direction p)
 all_nets policies direction p ascend =
-    pairs_flat Before StandsBefore (IsNetOf p) (net_places_by direction p) (net_of direction p)
+    pairs_flat Before PolicyStandsBefore (IsNetOf p) (net_places_by direction p) (net_of direction p)
     (λ policy. if_any (λ placed. All (IsNetOf p policy) placed → AllPairs Before placed) (net_selects policy p) (net_places_of direction policy)
     (λ selects all. pairs_with (IsNetOf p policy) (λ x y. x.place < y.place) Before (one_net p policy) (net_places_of direction policy) all
     (numbered_pairs (λ placed. placed.place) (λ numbered. record { policy = policy; place = numbered.0; rule = numbered.1 }) (λ numbered. refl) 0 (unwrap_or (net_rules_of direction policy) [])))
@@ -115,7 +115,7 @@ in_order (x ∷ xs) pairs =
     (recursion_from_All (λ y. net_precedes y x ≡ false) xs (λ k d within. before_holds x _ (AllPairs-head Before x xs pairs k d within)), in_order xs (AllPairs-tail Before x xs pairs))
 
 -- The rule that decides is the first in the order of the policies that matches.
-pub net_decider_is_first : (policies : List NetPolicy) (direction : Direction) (p : PodEnd) (contact : Contact) → AllPairs StandsBefore policies →
+pub net_decider_is_first : (policies : List NetPolicy) (direction : Direction) (p : PodEnd) (contact : Contact) → AllPairs PolicyStandsBefore policies →
     net_decider policies direction p contact ≡ find (placed_net_matches contact) (net_places policies direction p)
 net_decider_is_first policies direction p contact ascend =
     least_is_first net_precedes (placed_net_matches contact) (net_places policies direction p) (in_order (net_places policies direction p) (all_nets policies direction p ascend))
@@ -134,7 +134,7 @@ net_named_apart x y before same =
     let below : nat_lt x.place y.place ≡ true = ap (λ (r : Ordering). match_ordering r true (nat_lt x.place y.place) false) (sym equal) ∙ before.precedes in
     lt_never y.place (ap (λ n. nat_lt n y.place) (sym (ap place_of same)) ∙ below)
 
-pub net_names_apart : (policies : List NetPolicy) (direction : Direction) (p : PodEnd) → AllPairs StandsBefore policies →
+pub net_names_apart : (policies : List NetPolicy) (direction : Direction) (p : PodEnd) → AllPairs PolicyStandsBefore policies →
     AllPairs (λ x y. net_rule_name x ≢ net_rule_name y) (net_places policies direction p)
 net_names_apart policies direction p ascend = λ i j d before within. net_named_apart _ _ (all_nets policies direction p ascend i j d before within)
 

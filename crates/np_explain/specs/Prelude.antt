@@ -6,9 +6,9 @@ unfoldable pub use Rattle.np_explain.specs.Explanations.{explanation_of, same_pa
 pub use Rattle.np_explain.specs.Marks.{IsMarkOf, IsPassOf, KeepsNames, KeepsSide, SaysActions, admin_rules, base_rules, mark_decider, named_part, net_rules, pass_name, policy_name_at}
 pub use Rattle.np_explain.specs.Order.{first_number, first_or}
 pub use Rattle.np_explain.specs.PartLine.{part_line}
-pub use Rattle.np_explain.specs.Parts.{AreRightParts, StartsBefore, some_has, spot_number}
+pub use Rattle.np_explain.specs.Parts.{AreRightParts, StartsBefore, some_part_has, spot_number}
 pub use Rattle.np_explain.specs.RightParts.{part_of, same_rule}
-unfoldable pub use Rattle.np_explain.specs.RightParts.{all_spots, each_once, parts_of, same_decider, spots_from}
+unfoldable pub use Rattle.np_explain.specs.RightParts.{all_spots, each_decider_once, parts_of, same_decider, spots_from}
 pub use Rattle.np_explain.specs.Sides.{IsFamilyAt, IsFamilyOf, are_one_pod, decider_at, decider_between, decider_near, end_at, is_address, packet_between, placed_at, with_end}
 pub use Rattle.np_explain.specs.Types.{Action, Admin, AdminPart, AdminPolicy, Allow, Base, BasePolicy, Decider, Deny, Direction, Egress, End, EstateLists, Explanation, Family, Free, Ingress, Isolated, Layer, LayerRules, Mark, Marked, Net, NetPolicy, NoSide, Part, Pass, PortSpot, Proto, Range, RuleName, Sctp, Tcp, Udp}
 pub use Rattle.np_explain.specs.WellNamed.{has_rule, is_rule_name, is_well_named}

@@ -35,9 +35,9 @@ same_decider one another = false
 -- ---- the parts
 
 -- each decider of the list once, where it stands first
-unfoldable pub each_once : List Decider → List Decider
-each_once [] = []
-each_once (decider ∷ others) = decider ∷ filter (λ other. not (same_decider decider other)) (each_once others)
+unfoldable pub each_decider_once : List Decider → List Decider
+each_decider_once [] = []
+each_decider_once (decider ∷ others) = decider ∷ filter (λ other. not (same_decider decider other)) (each_decider_once others)
 
 -- a decider with exactly the spots that it decides
 abbrev pub part_of : (PortSpot → Decider) → Decider → Part
@@ -45,4 +45,4 @@ part_of decides decider = record { decider = decider; conns = conns_of (λ spot.
 
 -- The deciders of all spots, each once, in the order of the first spot that each decides; with each of them what it decides.
 unfoldable pub parts_of : (PortSpot → Decider) → List Part
-parts_of decides = map (part_of decides) (each_once (map decides all_spots))
+parts_of decides = map (part_of decides) (each_decider_once (map decides all_spots))

@@ -2,13 +2,13 @@
 use Rattle.std.specs.Prelude.{◌≡◌, Bool, true, false, ◌==◌}
 use Rattle.np_addr.specs.Prelude.{family_of}
 use Rattle.np_explain.specs.Types.{Decider, Direction, Egress, End as PlacedEnd, EstateLists, Family, Ingress, PortSpot}
-use Rattle.np_rules.specs.Prelude.{Contact, End, Packet, PodSide, address, contact, contact_of, decider, end_of, near_pod, pod}
+use Rattle.np_rules.specs.Prelude.{Contact, ModelEnd, ModelPacket, PodSide, address, contact, contact_of, decider, end_of, near_pod, pod}
 use Rattle.np_rules.specs.declared.packet.End.TheVariants.{Pod, At}
 
 -- ---- two ends
 
 -- the packet of a family from one end to another, at a spot
-abbrev pub packet_between : EstateLists → PlacedEnd → PlacedEnd → Family → PortSpot → Packet
+abbrev pub packet_between : EstateLists → PlacedEnd → PlacedEnd → Family → PortSpot → ModelPacket
 packet_between lists source destination family spot = record { source = end_of lists source; destination = end_of lists destination; family = family; spot = spot }
 
 -- whether both ends are one pod
@@ -29,7 +29,7 @@ IsFamilyOf (Pod p) destination family = IsFamilyAt destination family
 -- ---- one side of them
 
 -- a source sends, and a destination receives
-abbrev pub end_at : Direction → Packet → End
+abbrev pub end_at : Direction → ModelPacket → ModelEnd
 end_at Egress packet = packet.source
 end_at Ingress packet = packet.destination
 
@@ -37,12 +37,12 @@ abbrev pub placed_at : Direction → PlacedEnd → PlacedEnd → PlacedEnd
 placed_at Egress source destination = source
 placed_at Ingress source destination = destination
 
-abbrev pub is_address : End → Bool
+abbrev pub is_address : ModelEnd → Bool
 is_address (pod p) = false
 is_address (address a) = true
 
 -- what decides a packet at that side
-abbrev pub decider_at : EstateLists → Direction → Packet → Decider
+abbrev pub decider_at : EstateLists → Direction → ModelPacket → Decider
 decider_at lists direction packet = decider lists direction (end_at direction packet) (contact_of direction packet)
 
 -- what decides there between two ends, spot by spot

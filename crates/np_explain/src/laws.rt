@@ -10,7 +10,7 @@ ghost use Rattle.np_explain.specs.declared.explanation.Explanation.{Explanation}
 ghost use Rattle.np_explain.specs.declared.part.Part.{Part};
 ghost use Rattle.np_model.specs.declared.direction.Direction.{Direction};
 ghost use Rattle.np_model.specs.declared.direction.Direction.TheVariants.{Ingress, Egress};
-ghost use Rattle.np_rules.specs.Prelude.{Contact, End as RuleEnd, Packet, allows, contact_of, decider, decider_allows, end_allows, end_of, end_rule_count};
+ghost use Rattle.np_rules.specs.Prelude.{Contact, ModelEnd as RuleEnd, ModelPacket, allows, contact_of, decider, decider_allows, end_allows, end_of, end_rule_count};
 ghost use Rattle.np_rules.specs.declared.decider.Decider.{Decider};
 ghost use Rattle.np_rules.specs.declared.decider.Decider.TheVariants.{NoSide};
 ghost use Rattle.np_rules.specs.declared.packet.End.{End};
@@ -45,7 +45,7 @@ pub fn parts_give_the_verdict()
 
 /// A packet is allowed where what decides at its source allows it and what decides at its destination does.
 pub fn both_sides_give_the_verdict()
-    ensures { (lists : EstateLists) (packet : Packet) → allows lists packet
+    ensures { (lists : EstateLists) (packet : ModelPacket) → allows lists packet
         ≡ (decider_allows (decider_at lists Egress packet) && decider_allows (decider_at lists Ingress packet)) }
 {}
 

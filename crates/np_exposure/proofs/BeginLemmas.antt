@@ -10,9 +10,9 @@ use Rattle.np_exposure.proofs.FirstLemmas.{first-parts}
 use Rattle.np_exposure.proofs.ListLemmas.{All-from, IsAmong-filter, list_all-from}
 use Rattle.np_exposure.proofs.SameLemmas.{is_same-equal}
 use Rattle.np_exposure.proofs.StandsLemmas.{Alike, HasLike, Stands, walked-rows}
-use Rattle.np_exposure.specs.Prelude.{Absent, AreRowsOf, AreWalked, Choices, ExposureRow, Namespace, NoneOf, OneOf, Op, Pod, Present, Side, SidedRequirement, Stranger, are_at, choices_at_first, choices_of, each_once, fits, is_at, is_hypothetical, is_name_key, is_same, keys_on, label_at, labels_at, labels_on, looks_at, meets_all, mentions, other_than, same_side, values_at, with_more}
+use Rattle.np_exposure.specs.Prelude.{Absent, AreRowsOf, AreWalked, Choices, ExposureRow, Namespace, NoneOf, OneOf, Op, Pod, Present, Side, SidedRequirement, Stranger, are_at, choices_at_first, choices_of, each_once, fits_assumed, is_at, is_hypothetical, is_name_key, is_same, keys_on, label_at, labels_at, labels_on, looks_at, meets_all, mentions, other_than, same_side, values_at, with_more}
 use Rattle.np_labels.proofs.Distinct.{is_listed-distinct}
-use Rattle.np_labels.specs.Prelude.{allows, is_listed, value_of}
+use Rattle.np_labels.specs.Prelude.{is_listed, op_allows, value_of}
 use Rattle.np_rules.proofs.EachItem.{All-each}
 use Rattle.np_rules.specs.Prelude.{IsAmong, PodSide}
 
@@ -110,7 +110,7 @@ other-unlisted values =
     let all = length-append (flat_map (λ value. value) values) (codes "a") in
     long-unlisted values (other_than values) (omega arith)
 
-allows-unlisted : (op : Op) (values : List (List ℕ)) (a b : List ℕ) → is_listed values a ≡ false → is_listed values b ≡ false → allows op values (Some a) ≡ allows op values (Some b)
+allows-unlisted : (op : Op) (values : List (List ℕ)) (a b : List ℕ) → is_listed values a ≡ false → is_listed values b ≡ false → op_allows op values (Some a) ≡ op_allows op values (Some b)
 allows-unlisted OneOf values a b one two = one ∙ sym two
 allows-unlisted NoneOf values a b one two = ap not (one ∙ sym two)
 allows-unlisted Present values a b one two = refl
@@ -253,11 +253,11 @@ are_at-first all = list_all-from (is_at (choices_at_first all)) (each_once all) 
 
 -- ---- all of it
 
-nothing-fits : (state : List Choices) → list_all (λ choices. list_all (fits [] choices) choices.found) state ≡ true
+nothing-fits : (state : List Choices) → list_all (λ choices. list_all (fits_assumed [] choices) choices.found) state ≡ true
 nothing-fits [] = refl
 nothing-fits (choices ∷ state) = and_from _ _ (each choices.found) (nothing-fits state)
   where
-    each : (found : List (Option (List ℕ))) → list_all (fits [] choices) found ≡ true
+    each : (found : List (Option (List ℕ))) → list_all (fits_assumed [] choices) found ≡ true
     each [] = refl
     each (one ∷ found) = each found
 

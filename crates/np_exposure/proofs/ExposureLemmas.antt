@@ -5,8 +5,8 @@ use Rattle.std.specs.Str.{bytes_eq}
 use Rattle.std.proofs.lemmas.Bool.{false≢true}
 use Rattle.std.proofs.Math.Bool.{or-false}
 use Rattle.np_base.proofs.Each.{All-weaker, All-parts}
-use Rattle.np_exposure.specs.Prelude.{AdminPeer, AdminPort, AdminRule, Direction, Egress, Four, Ingress, Namespace, NetPeer, NetPort, NetRule, OneOf, Pod, PortSpot, Requirement, Selector, Side, SidedRequirement, Stranger, exposes, is_hypothetical, labels_at, meets, mentions, named, of_admin_peer, of_admin_rule, of_net_peer, of_net_rule, of_placed, of_selector}
-use Rattle.np_labels.specs.Prelude.{allows, meets_requirement, meets_selector, value_of}
+use Rattle.np_exposure.specs.Prelude.{AdminPeer, AdminPort, AdminRule, Direction, Egress, Four, Ingress, Namespace, NetPeer, NetPort, NetRule, OneOf, Pod, PortSpot, Requirement, Selector, Side, SidedRequirement, Stranger, exposes, is_hypothetical, labels_at, meets, mentions, namespace_is, of_admin_peer, of_admin_rule, of_net_peer, of_net_rule, of_placed, of_selector}
+use Rattle.np_labels.specs.Prelude.{meets_requirement, meets_selector, op_allows, value_of}
 use Rattle.np_model.specs.declared.admin_policy.AdminPeer.TheVariants as admin
 use Rattle.np_model.specs.declared.admin_policy.AdminPort.TheVariants as admin_port
 use Rattle.np_model.specs.declared.network_policy.NetPeer.TheVariants as net
@@ -15,7 +15,7 @@ use Rattle.np_rules.proofs.EachItem.{All-each, All-flat, filter-same, find-same,
 use Rattle.np_rules.specs.Prelude.{Contact, PodEnd, PodSide, admin_decider, admin_entry_matches, admin_peer_matches, admin_places, admin_precedes, admin_rule_matches, admin_says, base_decider, base_places, base_says, destination_of, is_isolated, least_by, lower_allows, near_pod, net_entry_matches, net_peer_matches, net_places, net_rule_matches, none_or_any, permits, placed_net_matches, pod, pods_match, side_allows, stranger_end, with_stranger}
 
 -- names of which both or neither is this one
-names-same : (namespace : List ℕ) (a b : Option (List ℕ)) → is_some a ≡ true → is_some b ≡ true → allows OneOf (namespace ∷ []) a ≡ allows OneOf (namespace ∷ []) b →
+names-same : (namespace : List ℕ) (a b : Option (List ℕ)) → is_some a ≡ true → is_some b ≡ true → op_allows OneOf (namespace ∷ []) a ≡ op_allows OneOf (namespace ∷ []) b →
     bytes_eq namespace (unwrap_or a []) ≡ bytes_eq namespace (unwrap_or b [])
 names-same namespace None b some some' same = absurd (false≢true some)
 names-same namespace (Some v) None some some' same = absurd (false≢true some')
@@ -38,7 +38,7 @@ module _ (s t : Stranger) (first : is_hypothetical s ≡ true) (second : is_hypo
   selector-same : (side : Side) (selector : Selector) → AllByRecursion (Agree s t) (of_selector side selector) → meets_selector selector (labels_at side s) ≡ meets_selector selector (labels_at side t)
   selector-same side selector agree = requirements-same side selector.requirements agree
 
-  named-same : (namespace : List ℕ) → Agree s t (named namespace) → bytes_eq namespace (stranger_end s).namespace ≡ bytes_eq namespace (stranger_end t).namespace
+  named-same : (namespace : List ℕ) → Agree s t (namespace_is namespace) → bytes_eq namespace (stranger_end s).namespace ≡ bytes_eq namespace (stranger_end t).namespace
   named-same namespace agree = names-same namespace (value_of s.namespace (codes "kubernetes.io/metadata.name")) (value_of t.namespace (codes "kubernetes.io/metadata.name")) first second agree
 
   -- ---- peers

@@ -7,7 +7,7 @@ use Rattle.std.proofs.lemmas.Bool.{and_parts, and_from}
 use Rattle.std.proofs.lemmas.List.{map-append}
 use Rattle.np_base.proofs.Lists.{list_all-both}
 use Rattle.np_exposure.proofs.SameLemmas.{same_side-refl}
-use Rattle.np_exposure.specs.Prelude.{Choices, IsState, MentionedKey, Namespace, Pod, Side, SidedRequirement, are_apart, choices_at_first, choices_of, has_choice, is_apart, is_name_key, is_named_at, is_open, keys_on, label_at, labels_of, labels_on, same_side}
+use Rattle.np_exposure.specs.Prelude.{Choices, IsState, MentionedKey, Namespace, Pod, Side, SidedRequirement, are_apart, choices_at_first, choices_of, has_choice, is_apart, is_name_key, is_named_at, is_open, keys_on, label_at, labels_on, mentioned_keys, same_side}
 use Rattle.np_labels.proofs.Ascending.{bytes_eq-below}
 use Rattle.np_labels.specs.Prelude.{Less-from_test, distinct-ascends, is_ascending, is_below}
 
@@ -80,7 +80,7 @@ first-parts all = map-append choices_of (labels_on Namespace all) (labels_on Pod
 -- the choices at first are a state
 pub IsState-first : (all : List SidedRequirement) → IsState (choices_at_first all)
 IsState-first all = record {
-  «open» = open-first (labels_of all);
+  «open» = open-first (mentioned_keys all);
   apart = ap is_apart (first-parts all) ∙ both-apart all (keys_on Namespace all) (keys_on Pod all) (side-apart Namespace all) (side-apart Pod all);
-  named = named-first (labels_of all);
+  named = named-first (mentioned_keys all);
 }

@@ -11,7 +11,7 @@ use Rattle.np_exposure.proofs.RightLemmas.{rows-one}
 use Rattle.np_exposure.proofs.RowLemmas.{IsJoined-joined}
 use Rattle.np_exposure.proofs.StandsLemmas.{answered, fits-more, walked-rows}
 use Rattle.np_exposure.proofs.StateLemmas.{IsState-narrowed, only-wanted}
-use Rattle.np_exposure.specs.Prelude.{AreJoinedAt, AreRowsOf, AreWalked, Choices, ExposureRow, IsState, SidedRequirement, can_be, can_be_assumed, choices_at_first, choices_left, each_once, exposes, first_stranger, fits, is_open, left_at, mentions, narrowed, narrowed_at, negated, requirements, rows_at, rows_left, rows_of, suits}
+use Rattle.np_exposure.specs.Prelude.{AreJoinedAt, AreRowsOf, AreWalked, Choices, ExposureRow, IsState, SidedRequirement, can_be, can_be_assumed, choices_at_first, choices_left, each_once, exposes, first_stranger, fits_assumed, is_open, left_at, mentions, narrowed, narrowed_at, negated, requirements, rows_at, rows_left, rows_of, suits}
 use Rattle.np_rules.specs.Prelude.{PodSide}
 
 -- ---- where nothing is assumed, all choices are left
@@ -30,17 +30,17 @@ all-left (choices ∷ state) =
 
 module _ (wanted : Bool) (asked : SidedRequirement) (assumed : List SidedRequirement) where
   found-left : (choices : Choices) (found : List (Option (List ℕ))) →
-      filter (fits (answered wanted asked ∷ assumed) choices) found ≡ filter (suits wanted asked choices) (filter (fits assumed choices) found)
+      filter (fits_assumed (answered wanted asked ∷ assumed) choices) found ≡ filter (suits wanted asked choices) (filter (fits_assumed assumed choices) found)
   found-left choices [] = refl
   found-left choices (one ∷ found) =
-      ap (λ b. cond b (one ∷ filter (fits (answered wanted asked ∷ assumed) choices) found) (filter (fits (answered wanted asked ∷ assumed) choices) found))
+      ap (λ b. cond b (one ∷ filter (fits_assumed (answered wanted asked ∷ assumed) choices) found) (filter (fits_assumed (answered wanted asked ∷ assumed) choices) found))
       (fits-more wanted asked assumed choices one)
-      ∙ by (fits assumed choices one) (suits wanted asked choices one) refl (found-left choices found)
+      ∙ by (fits_assumed assumed choices one) (suits wanted asked choices one) refl (found-left choices found)
     where
       by : (fit suit : Bool) → suits wanted asked choices one ≡ suit →
-          filter (fits (answered wanted asked ∷ assumed) choices) found ≡ filter (suits wanted asked choices) (filter (fits assumed choices) found)
-          → cond (suit && fit) (one ∷ filter (fits (answered wanted asked ∷ assumed) choices) found) (filter (fits (answered wanted asked ∷ assumed) choices) found) ≡ filter
-          (suits wanted asked choices) (cond fit (one ∷ filter (fits assumed choices) found) (filter (fits assumed choices) found))
+          filter (fits_assumed (answered wanted asked ∷ assumed) choices) found ≡ filter (suits wanted asked choices) (filter (fits_assumed assumed choices) found)
+          → cond (suit && fit) (one ∷ filter (fits_assumed (answered wanted asked ∷ assumed) choices) found) (filter (fits_assumed (answered wanted asked ∷ assumed) choices) found) ≡ filter
+          (suits wanted asked choices) (cond fit (one ∷ filter (fits_assumed assumed choices) found) (filter (fits_assumed assumed choices) found))
       by true true does rest = rw does (ap (λ (more : List (Option (List ℕ))). one ∷ more) rest)
       by true false misses rest = rw misses rest
       by false true does rest = rest

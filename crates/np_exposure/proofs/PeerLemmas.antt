@@ -5,7 +5,7 @@ use Rattle.std.proofs.lemmas.Bool.{and_parts, false≢true, true≢false, not-tr
 use Rattle.np_base.proofs.Lists.{some-more}
 use Rattle.np_base.proofs.Texts.{texts-apart}
 use Rattle.np_exposure.proofs.SameLemmas.{requirement-equal, sided-equal}
-use Rattle.np_exposure.specs.Prelude.{Absent, Namespace, NoneOf, OneOf, Op, Pod, Present, Side, SidedRequirement, are_well, asked_text, peer_text, requirement_text, side_text, values_text}
+use Rattle.np_exposure.specs.Prelude.{Absent, Namespace, NoneOf, OneOf, Op, Pod, Present, Side, SidedRequirement, are_well, asked_text, named_side_text, peer_text, requirement_text, values_text}
 use Rattle.np_model.specs.Prelude.{is_whole_word, is_word, is_worded}
 use Rattle.np_labels.specs.Prelude.{fits, is_ascending, is_well_requirement}
 use Rattle.np_model.proofs.WordLemmas.{words-cut}
@@ -93,18 +93,18 @@ asked-one Absent Present values values' t t' words words' fit fit' same = absurd
 
 -- ---- requirements
 
-side-one : (side side' : Side) → side_text side ≡ side_text side' → side ≡ side'
+side-one : (side side' : Side) → named_side_text side ≡ named_side_text side' → side ≡ side'
 side-one Namespace Namespace same = refl
 side-one Pod Pod same = refl
 side-one Namespace Pod same = absurd (texts-apart 0 110 112 (codes "namespace") (codes "pod") same refl refl refl)
 side-one Pod Namespace same = absurd (texts-apart 0 112 110 (codes "pod") (codes "namespace") same refl refl refl)
 
-side-word : (side : Side) → is_word (side_text side) ≡ true
+side-word : (side : Side) → is_word (named_side_text side) ≡ true
 side-word Namespace = refl
 side-word Pod = refl
 
 spelled : (asked : SidedRequirement) (t : List ℕ) →
-    requirement_text asked ++ t ≡ side_text asked.side ++ 32 ∷ (asked.requirement.key ++ 32 ∷ (asked_text asked.requirement.op asked.requirement.values ++ t))
+    requirement_text asked ++ t ≡ named_side_text asked.side ++ 32 ∷ (asked.requirement.key ++ 32 ∷ (asked_text asked.requirement.op asked.requirement.values ++ t))
 spelled asked t = simp append_assoc
 
 abbrev is_well : SidedRequirement → Bool
@@ -120,7 +120,7 @@ requirement-one a b t t' well well' same =
     let key' = and_parts (not (length b.requirement.key == 0)) (is_word b.requirement.key) words'.0 in
     let fit = and_parts (is_ascending a.requirement.values) (fits a.requirement.op (not (length a.requirement.values == 0))) one.1 in
     let fit' = and_parts (is_ascending b.requirement.values) (fits b.requirement.op (not (length b.requirement.values == 0))) two.1 in
-    let sides = words-cut (side_text a.side) (side_text b.side) 32 32 _ _ (side-word a.side) (side-word b.side) refl refl (sym (spelled a t) ∙ same ∙ spelled b t') in
+    let sides = words-cut (named_side_text a.side) (named_side_text b.side) 32 32 _ _ (side-word a.side) (side-word b.side) refl refl (sym (spelled a t) ∙ same ∙ spelled b t') in
     let keys = words-cut a.requirement.key b.requirement.key 32 32 _ _ key.1 key'.1 refl refl sides.2 in
     let asked = asked-one a.requirement.op b.requirement.op a.requirement.values b.requirement.values t t' words.1 words'.1 fit.1 fit'.1 keys.2 in
     (sided-equal a b (side-one a.side b.side sides.0) (requirement-equal a.requirement b.requirement keys.0 asked.op asked.values), asked.rest)
@@ -169,7 +169,7 @@ any-apart : (first : SidedRequirement) (others : List SidedRequirement) → code
 any-apart first others same = by first.side (same ∙ ap (λ (rest : List ℕ). codes "{" ++ rest) (spelled first (more_text others ++ codes "}")))
   where
     by : (side : Side) →
-        codes "{any pod}" ≡ codes "{" ++ (side_text side ++ 32 ∷ (first.requirement.key ++ 32 ∷ (asked_text first.requirement.op first.requirement.values ++ (more_text others ++ codes "}")))) → ⊥
+        codes "{any pod}" ≡ codes "{" ++ (named_side_text side ++ 32 ∷ (first.requirement.key ++ 32 ∷ (asked_text first.requirement.op first.requirement.values ++ (more_text others ++ codes "}")))) → ⊥
     by Namespace is = texts-apart 1 97 110 (codes "{any pod}") _ is refl refl refl
     by Pod is = texts-apart 1 97 112 (codes "{any pod}") _ is refl refl refl
 

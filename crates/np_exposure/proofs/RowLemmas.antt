@@ -5,7 +5,7 @@ use Rattle.std.proofs.lemmas.Bool.{and_parts, and_from, false≢true}
 use lib.Pointwise.{pointwise_decides}
 use Rattle.np_conns.specs.Prelude.{Conns, are_same_conns}
 use Rattle.np_conns.proofs.ConnLemmas.{are_same_conns-Decides}
-use Rattle.np_exposure.specs.Prelude.{ExposureRow, IsJoined, SidedRequirement, apart, are_same_row, are_same_rows, equal, is_same, joined}
+use Rattle.np_exposure.specs.Prelude.{ExposureRow, IsJoined, SidedRequirement, apart, are_same_row, are_same_rows, equal, is_same, joined_rows}
 use Rattle.np_exposure.proofs.SameLemmas.{is_same-equal, is_same-refl}
 
 -- ---- equal rows
@@ -32,12 +32,12 @@ rows-tell : (these those : List ExposureRow) → Tells are_same_rows these those
 rows-tell = pointwise_decides row-tell
 
 -- the rows of both cases, put together by the test
-pub IsJoined-joined : (asked : SidedRequirement) (met unmet : List ExposureRow) → IsJoined asked met unmet (joined asked met unmet)
+pub IsJoined-joined : (asked : SidedRequirement) (met unmet : List ExposureRow) → IsJoined asked met unmet (joined_rows asked met unmet)
 IsJoined-joined asked met unmet = by (are_same_rows met unmet) refl
   where
     tells : Tells are_same_rows met unmet
     tells = rows-tell met unmet
 
-    by : (b : Bool) → are_same_rows met unmet ≡ b → IsJoined asked met unmet (joined asked met unmet)
+    by : (b : Bool) → are_same_rows met unmet ≡ b → IsJoined asked met unmet (joined_rows asked met unmet)
     by true same = equal (tells.0 same) (rw same refl)
     by false differ = apart (λ is. false≢true (sym differ ∙ tells.1 is)) (rw differ refl)

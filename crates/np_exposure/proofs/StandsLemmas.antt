@@ -10,8 +10,8 @@ use Rattle.np_conns.specs.Prelude.{Conns}
 use Rattle.np_exposure.proofs.ExposureLemmas.{Agree, exposes-same}
 use Rattle.np_exposure.proofs.ListLemmas.{All-at, IsAmong-filter, list_all-at, list_all-from, list_any-at}
 use Rattle.np_exposure.proofs.SameLemmas.{same_side-equal}
-use Rattle.np_exposure.specs.Prelude.{Absent, AreJoinedAt, AreRows, AreRowsAt, AreWalked, Choices, ExposureRow, HasExposure, IsAssumed, IsChosen, IsExposure, IsPossible, IsWitness, NoneOf, OneOf, Op, Present, Side, SidedRequirement, Stranger, allows_found, always, as_wanted, can_be, either, fits, is_at, is_hypothetical, labels_at, looks_at, meets, meets_all, mentions, narrowed, negated, never, same_side, suits}
-use Rattle.np_labels.specs.Prelude.{allows, opposite_of, value_of}
+use Rattle.np_exposure.specs.Prelude.{Absent, AreJoinedAt, AreRows, AreRowsAt, AreWalked, Choices, ExposureRow, HasExposure, IsAssumed, IsChosen, IsExposure, IsPossible, IsWitness, NoneOf, OneOf, Op, Present, Side, SidedRequirement, Stranger, allows_found, always, as_wanted, can_be, either, fits_assumed, is_at, is_hypothetical, labels_at, looks_at, meets, meets_all, mentions, narrowed, negated, never, same_side, suits}
+use Rattle.np_labels.specs.Prelude.{op_allows, opposite_of, value_of}
 use Rattle.np_rules.specs.Prelude.{IsAmong, PodSide}
 
 -- ---- requirements and their negations
@@ -20,7 +20,7 @@ not-not : (b : Bool) → b ≡ not (not b)
 not-not true = refl
 not-not false = refl
 
-allows-opposite : (op : Op) (values : List (List ℕ)) (found : Option (List ℕ)) → allows (opposite_of op) values found ≡ not (allows op values found)
+allows-opposite : (op : Op) (values : List (List ℕ)) (found : Option (List ℕ)) → op_allows (opposite_of op) values found ≡ not (op_allows op values found)
 allows-opposite OneOf values None = refl
 allows-opposite OneOf values (Some value) = refl
 allows-opposite NoneOf values None = refl
@@ -76,7 +76,7 @@ IsDecided assumed asked = IsAmong asked assumed ⊎ IsAmong (negated asked) assu
 -- choice is allowed by it. Each requirement is left, or decided.
 pub record Stands (all left assumed : List SidedRequirement) (state : List Choices) : Type 0 where
   pub complete : (s : Stranger) → IsAssumed assumed s → AllByRecursion (HasLike all s) state
-  pub sound : list_all (λ choices. list_all (fits assumed choices) choices.found) state ≡ true
+  pub sound : list_all (λ choices. list_all (fits_assumed assumed choices) choices.found) state ≡ true
   pub covers : list_all (is_at state) all ≡ true
   pub known : list_all (is_at state) assumed ≡ true
   pub within : AllByRecursion (λ asked. IsAmong asked all) left
@@ -115,29 +115,29 @@ module _ (all : List SidedRequirement) (wanted : Bool) (asked : SidedRequirement
 
 module _ (wanted : Bool) (asked : SidedRequirement) where
   pub fits-more : (assumed : List SidedRequirement) (choices : Choices) (found : Option (List ℕ)) →
-      fits (answered wanted asked ∷ assumed) choices found ≡ (suits wanted asked choices found && fits assumed choices found)
+      fits_assumed (answered wanted asked ∷ assumed) choices found ≡ (suits wanted asked choices found && fits_assumed assumed choices found)
   fits-more assumed choices found =
-      ap (λ b. (not b || allows_found (answered wanted asked) found) && fits assumed choices found) (looks-answered wanted asked choices)
-      ∙ ap (λ b. (not (looks_at choices.side choices.key asked) || b) && fits assumed choices found) (allows-answered wanted asked found)
+      ap (λ b. (not b || allows_found (answered wanted asked) found) && fits_assumed assumed choices found) (looks-answered wanted asked choices)
+      ∙ ap (λ b. (not (looks_at choices.side choices.key asked) || b) && fits_assumed assumed choices found) (allows-answered wanted asked found)
 
-  kept-fit : (assumed : List SidedRequirement) (choices : Choices) (found : List (Option (List ℕ))) → list_all (fits assumed choices) found ≡ true →
-      list_all (fits (answered wanted asked ∷ assumed) choices) (filter (suits wanted asked choices) found) ≡ true
+  kept-fit : (assumed : List SidedRequirement) (choices : Choices) (found : List (Option (List ℕ))) → list_all (fits_assumed assumed choices) found ≡ true →
+      list_all (fits_assumed (answered wanted asked ∷ assumed) choices) (filter (suits wanted asked choices) found) ≡ true
   kept-fit assumed choices [] fit = refl
   kept-fit assumed choices (one ∷ found) fit =
-      let parts = and_parts (fits assumed choices one) (list_all (fits assumed choices) found) fit in
+      let parts = and_parts (fits_assumed assumed choices one) (list_all (fits_assumed assumed choices) found) fit in
       by (suits wanted asked choices one) refl parts.0 (kept-fit assumed choices found parts.1)
     where
-      by : (b : Bool) → suits wanted asked choices one ≡ b → fits assumed choices one ≡ true →
-          list_all (fits (answered wanted asked ∷ assumed) choices) (filter (suits wanted asked choices) found) ≡ true
-          → list_all (fits (answered wanted asked ∷ assumed) choices) (cond b (one ∷ filter (suits wanted asked choices) found) (filter (suits wanted asked choices) found)) ≡ true
-      by true does here rest = and_from (fits (answered wanted asked ∷ assumed) choices one) _ (fits-more assumed choices one ∙ and_from _ _ does here) rest
+      by : (b : Bool) → suits wanted asked choices one ≡ b → fits_assumed assumed choices one ≡ true →
+          list_all (fits_assumed (answered wanted asked ∷ assumed) choices) (filter (suits wanted asked choices) found) ≡ true
+          → list_all (fits_assumed (answered wanted asked ∷ assumed) choices) (cond b (one ∷ filter (suits wanted asked choices) found) (filter (suits wanted asked choices) found)) ≡ true
+      by true does here rest = and_from (fits_assumed (answered wanted asked ∷ assumed) choices one) _ (fits-more assumed choices one ∙ and_from _ _ does here) rest
       by false does here rest = rest
 
-  sound-narrowed : (assumed : List SidedRequirement) (state : List Choices) → list_all (λ choices. list_all (fits assumed choices) choices.found) state ≡ true →
-      list_all (λ choices. list_all (fits (answered wanted asked ∷ assumed) choices) choices.found) (narrowed wanted asked state) ≡ true
+  sound-narrowed : (assumed : List SidedRequirement) (state : List Choices) → list_all (λ choices. list_all (fits_assumed assumed choices) choices.found) state ≡ true →
+      list_all (λ choices. list_all (fits_assumed (answered wanted asked ∷ assumed) choices) choices.found) (narrowed wanted asked state) ≡ true
   sound-narrowed assumed [] sound = refl
   sound-narrowed assumed (choices ∷ state) sound =
-      let parts = and_parts (list_all (fits assumed choices) choices.found) (list_all (λ one. list_all (fits assumed one) one.found) state) sound in
+      let parts = and_parts (list_all (fits_assumed assumed choices) choices.found) (list_all (λ one. list_all (fits_assumed assumed one) one.found) state) sound in
       and_from _ _ (kept-fit assumed choices choices.found parts.0) (sound-narrowed assumed state parts.1)
 
   -- the keys stay
@@ -203,17 +203,17 @@ cannot-be all left assumed state wanted asked stands cannot possible =
 
 -- a hypothetical pod with labels among the choices meets what is assumed
 chosen-meets : (assumed : List SidedRequirement) (s : Stranger) (asked : SidedRequirement) (state : List Choices) → IsAmong asked assumed → is_at state asked ≡ true →
-    list_all (λ choices. list_all (fits assumed choices) choices.found) state ≡ true → AllByRecursion (IsChosen s) state → meets asked s ≡ true
+    list_all (λ choices. list_all (fits_assumed assumed choices) choices.found) state ≡ true → AllByRecursion (IsChosen s) state → meets asked s ≡ true
 chosen-meets assumed s asked [] among at sound chosen = absurd (false≢true at)
 chosen-meets assumed s asked (choices ∷ state) among at sound chosen =
-    let parts = and_parts (list_all (fits assumed choices) choices.found) (list_all (λ one. list_all (fits assumed one) one.found) state) sound in
+    let parts = and_parts (list_all (fits_assumed assumed choices) choices.found) (list_all (λ one. list_all (fits_assumed assumed one) one.found) state) sound in
     by (looks_at choices.side choices.key asked) refl at parts.0 chosen.0 (λ later. chosen-meets assumed s asked state among later parts.1 chosen.1)
   where
-    by : (b : Bool) → looks_at choices.side choices.key asked ≡ b → (b || is_at state asked) ≡ true → list_all (fits assumed choices) choices.found ≡ true → IsChosen s choices →
+    by : (b : Bool) → looks_at choices.side choices.key asked ≡ b → (b || is_at state asked) ≡ true → list_all (fits_assumed assumed choices) choices.found ≡ true → IsChosen s choices →
         (is_at state asked ≡ true → meets asked s ≡ true) → meets asked s ≡ true
     by true looks here fit one rest =
         let found = value_of (labels_at choices.side s) choices.key in
-        let all_fit : fits assumed choices found ≡ true = list_all-at (fits assumed choices) found choices.found one fit in
+        let all_fit : fits_assumed assumed choices found ≡ true = list_all-at (fits_assumed assumed choices) found choices.found one fit in
         let this : (not (looks_at choices.side choices.key asked) || allows_found asked found) ≡ true = list_all-at
         (λ other. not (looks_at choices.side choices.key other) || allows_found other found) asked assumed among all_fit in
         meets-found asked choices s looks ∙ subst (λ b. (not b || allows_found asked found) ≡ true) looks this

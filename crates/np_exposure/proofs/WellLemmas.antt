@@ -5,7 +5,7 @@ use Rattle.std.specs.Option.{option_map_or}
 use Rattle.std.proofs.lemmas.Bool.{and_parts, and_from}
 use Rattle.np_model.specs.Prelude.{has_slash, is_name, is_well, is_well_admin_peer, is_well_admin_policy, is_well_admin_rule, is_well_base_policy, is_well_base_rule, is_well_net_peer, is_well_net_policy, is_well_net_rule, is_word, is_worded, option_all}
 use Rattle.np_exposure.proofs.MentionLemmas.{admin_mentions, base_mentions, net_mentions, of_admin_policy, of_net_policy}
-use Rattle.np_exposure.specs.Prelude.{AdminPeer, AdminPolicy, AdminRule, AreRows, AreRowsAt, AreRowsOf, BasePolicy, Direction, Egress, ExposureRow, Ingress, IsJoined, IsPossible, Namespace, NetPeer, NetPolicy, NetRule, Pod, Requirement, Selector, Side, SidedRequirement, always, apart, are_well, either, equal, is_same, mentions, named, negated, never, of_admin_peer, of_admin_rule, of_namespaces, of_net_peer, of_net_rule, of_optional, of_placed, of_selector, requirements, with_first, with_more}
+use Rattle.np_exposure.specs.Prelude.{AdminPeer, AdminPolicy, AdminRule, AreRows, AreRowsAt, AreRowsOf, BasePolicy, Direction, Egress, ExposureRow, Ingress, IsJoined, IsPossible, Namespace, NetPeer, NetPolicy, NetRule, Pod, Requirement, Selector, Side, SidedRequirement, always, apart, are_well, either, equal, is_same, mentions, namespace_is, negated, never, of_admin_peer, of_admin_rule, of_namespaces, of_net_peer, of_net_rule, of_optional, of_placed, of_selector, requirements, with_first, with_more}
 use Rattle.np_labels.specs.WellFormed as labels
 use Rattle.np_model.specs.WellPolicies.{is_well_selector}
 use Rattle.np_model.specs.declared.admin_policy.AdminPeer.TheVariants as admin
@@ -43,14 +43,14 @@ requirements-well side (one ∷ all) fit words =
 
 selector-well : (side : Side) (selector : Selector) → is_well_selector selector ≡ true → are_well (of_selector side selector) ≡ true
 selector-well side selector well =
-    let parts = and_parts (labels.is_well_selector selector) (list_all is_worded selector.requirements) well in
+    let parts = and_parts (labels.has_well_requirements selector) (list_all is_worded selector.requirements) well in
     requirements-well side selector.requirements parts.0 parts.1
 
 optional-well : (side : Side) (selector : Option Selector) → option_all is_well_selector selector ≡ true → are_well (of_optional side selector) ≡ true
 optional-well side None well = refl
 optional-well side (Some selector) well = selector-well side selector well
 
-named-well : (namespace : List ℕ) → is_name namespace ≡ true → are_well (named namespace ∷ []) ≡ true
+named-well : (namespace : List ℕ) → is_name namespace ≡ true → are_well (namespace_is namespace ∷ []) ≡ true
 named-well namespace name =
     let some = and_parts (not (length namespace == 0) && is_word namespace) (not (has_slash namespace)) name in
     let word = and_parts (not (length namespace == 0)) (is_word namespace) some.0 in

@@ -5,7 +5,7 @@ use Rattle.std.specs.Str.{bytes_eq}
 use Rattle.np_exposure.specs.Mentions.{same_side}
 use Rattle.np_exposure.specs.Weight.{keys_on, looks_at, values_at}
 use Rattle.np_exposure.specs.Types.{MentionedKey, Namespace, Pair, Pod, Side, SidedRequirement, Stranger}
-use Rattle.np_labels.specs.Prelude.{allows}
+use Rattle.np_labels.specs.Prelude.{op_allows}
 
 -- what may be found at a key of a side's labels: one of these values, or none
 pub record Choices : Type 0 where
@@ -31,8 +31,8 @@ abbrev pub labels_on : Side → List SidedRequirement → List MentionedKey
 labels_on side all = map (label_at side all) (keys_on side all)
 
 -- all mentioned keys, those of namespaces first
-abbrev pub labels_of : List SidedRequirement → List MentionedKey
-labels_of all = labels_on Namespace all ++ labels_on Pod all
+abbrev pub mentioned_keys : List SidedRequirement → List MentionedKey
+mentioned_keys all = labels_on Namespace all ++ labels_on Pod all
 
 -- the mentioned values, the other one, and that there is none
 abbrev pub choices_of : MentionedKey → Choices
@@ -40,20 +40,20 @@ choices_of label =
     record { side = label.side; key = label.key; found = map Some label.values ++ Some label.other ∷ (if is_name_key label.side label.key then [] else None ∷ []) }
 
 abbrev pub choices_at_first : List SidedRequirement → List Choices
-choices_at_first all = map choices_of (labels_of all)
+choices_at_first all = map choices_of (mentioned_keys all)
 
 -- ---- the choices that are left by what is assumed
 
 -- whether the requirement allows what is found at its key
 abbrev pub allows_found : SidedRequirement → Option (List ℕ) → Bool
-allows_found asked found = allows asked.requirement.op asked.requirement.values found
+allows_found asked found = op_allows asked.requirement.op asked.requirement.values found
 
 -- whether all that is assumed of the key allows what is found there
-abbrev pub fits : List SidedRequirement → Choices → Option (List ℕ) → Bool
-fits assumed choices found = list_all (λ asked. not (looks_at choices.side choices.key asked) || allows_found asked found) assumed
+abbrev pub fits_assumed : List SidedRequirement → Choices → Option (List ℕ) → Bool
+fits_assumed assumed choices found = list_all (λ asked. not (looks_at choices.side choices.key asked) || allows_found asked found) assumed
 
 abbrev pub left_at : List SidedRequirement → Choices → Choices
-left_at assumed choices = record choices { found = filter (fits assumed choices) choices.found }
+left_at assumed choices = record choices { found = filter (fits_assumed assumed choices) choices.found }
 
 -- at each key the choices that fit
 abbrev pub choices_left : List SidedRequirement → List SidedRequirement → List Choices

@@ -20,13 +20,13 @@ abbrev pub of_optional : Side → Option Selector → List SidedRequirement
 of_optional side found = option_map_or (of_selector side) found []
 
 -- the requirement that the namespace is the one of this name
-abbrev pub named : List ℕ → SidedRequirement
-named namespace = record { side = Namespace; requirement = label_requirement (codes "kubernetes.io/metadata.name", namespace) }
+abbrev pub namespace_is : List ℕ → SidedRequirement
+namespace_is namespace = record { side = Namespace; requirement = label_requirement (codes "kubernetes.io/metadata.name", namespace) }
 
 -- A pod selector alone stands for pods of the policy's namespace.
 abbrev pub of_namespaces : List ℕ → Option Selector → Bool → List SidedRequirement
 of_namespaces namespace (Some namespaces) has_pods = of_selector Namespace namespaces
-of_namespaces namespace None true = named namespace ∷ []
+of_namespaces namespace None true = namespace_is namespace ∷ []
 of_namespaces namespace None false = []
 
 -- A peer of a NetworkPolicy of this namespace. A block of addresses mentions nothing.

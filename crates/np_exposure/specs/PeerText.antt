@@ -5,9 +5,9 @@ use Rattle.np_exposure.specs.Types.{Absent, Namespace, NoneOf, OneOf, Op, Pod, P
 use Rattle.np_labels.specs.Prelude.{is_well_requirement}
 use Rattle.np_model.specs.Prelude.{is_worded}
 
-abbrev pub side_text : Side → List ℕ
-side_text Namespace = codes "namespace"
-side_text Pod = codes "pod"
+abbrev pub named_side_text : Side → List ℕ
+named_side_text Namespace = codes "namespace"
+named_side_text Pod = codes "pod"
 
 -- values, joined by commas
 abbrev pub values_text : List (List ℕ) → List ℕ
@@ -22,7 +22,7 @@ asked_text Absent values = codes "DoesNotExist"
 
 -- the side, the key, and what is asked
 abbrev pub requirement_text : SidedRequirement → List ℕ
-requirement_text asked = side_text asked.side ++ codes " " ++ asked.requirement.key ++ codes " " ++ asked_text asked.requirement.op asked.requirement.values
+requirement_text asked = named_side_text asked.side ++ codes " " ++ asked.requirement.key ++ codes " " ++ asked_text asked.requirement.op asked.requirement.values
 
 -- the requirements, joined by ` and `
 unfoldable pub peer_text : List SidedRequirement → List ℕ

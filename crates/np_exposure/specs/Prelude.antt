@@ -1,11 +1,11 @@
 -- The definitions and types of this crate that its proofs and the crates above speak of, one import line a file.
-pub use Rattle.np_exposure.specs.Choices.{Choices, allows_found, can_be_assumed, choices_at_first, choices_left, choices_of, first_found, first_label, first_on, first_stranger, fits, has_choice, is_name_key, is_open, label_at, label_if, labels_of, labels_on, left_at, other_than}
-pub use Rattle.np_exposure.specs.Mentions.{each_once, is_same, named, of_admin_peer, of_admin_rule, of_namespaces, of_net_peer, of_net_rule, of_optional, of_placed, of_selector, requirements, same_op, same_side, with_more}
+pub use Rattle.np_exposure.specs.Choices.{Choices, allows_found, can_be_assumed, choices_at_first, choices_left, choices_of, first_found, first_label, first_on, first_stranger, fits_assumed, has_choice, is_name_key, is_open, label_at, label_if, labels_on, left_at, mentioned_keys, other_than}
+pub use Rattle.np_exposure.specs.Mentions.{each_once, is_same, namespace_is, of_admin_peer, of_admin_rule, of_namespaces, of_net_peer, of_net_rule, of_optional, of_placed, of_selector, requirements, same_op, same_side, with_more}
 unfoldable pub use Rattle.np_exposure.specs.Mentions.{mentions}
-pub use Rattle.np_exposure.specs.PeerText.{are_well, asked_text, requirement_text, side_text, values_text}
+pub use Rattle.np_exposure.specs.PeerText.{are_well, asked_text, named_side_text, requirement_text, values_text}
 unfoldable pub use Rattle.np_exposure.specs.PeerText.{peer_text}
 pub use Rattle.np_exposure.specs.Right.{FirstRowTells, IsEachFirst, meets_row}
-pub use Rattle.np_exposure.specs.Rows.{are_same_row, are_same_rows, joined, row_of, rows_at, rows_of}
+pub use Rattle.np_exposure.specs.Rows.{are_same_row, are_same_rows, bare_row, joined_rows, rows_at, rows_of}
 unfoldable pub use Rattle.np_exposure.specs.Rows.{rows_left}
 pub use Rattle.np_exposure.specs.Strangers.{IsExposure, exposes, is_hypothetical, labels_at, meets, meets_all, negated}
 pub use Rattle.np_exposure.specs.Tree.{AreRowsAt, AreRowsOf, HasExposure, IsAssumed, IsJoined, IsPossible, always, apart, either, equal, never, with_first}

@@ -21,23 +21,23 @@ are_same_rows these those = pointwise are_same_row these those
 -- ---- the rows
 
 -- a row without requirements, with the exposure of a hypothetical pod
-abbrev pub row_of : PodSide → Stranger → ExposureRow
-row_of side s = record { requirements = []; conns = conns_of (exposes side s) }
+abbrev pub bare_row : PodSide → Stranger → ExposureRow
+bare_row side s = record { requirements = []; conns = conns_of (exposes side s) }
 
 -- The rows where the requirement is met, and those where it is not, as one list. Equal lists are not kept apart.
-abbrev pub joined : SidedRequirement → List ExposureRow → List ExposureRow → List ExposureRow
-joined asked met unmet = if are_same_rows met unmet then met else map (with_first asked) met ++ unmet
+abbrev pub joined_rows : SidedRequirement → List ExposureRow → List ExposureRow → List ExposureRow
+joined_rows asked met unmet = if are_same_rows met unmet then met else map (with_first asked) met ++ unmet
 
 -- The rows at a requirement, by whether it can be met and can be missed. Where only one can be, it is not asked.
 abbrev pub rows_at : SidedRequirement → Bool → Bool → List ExposureRow → List ExposureRow → List ExposureRow
-rows_at asked true true met unmet = joined asked met unmet
+rows_at asked true true met unmet = joined_rows asked met unmet
 rows_at asked true false met unmet = met
 rows_at asked false can_miss met unmet = unmet
 
 -- The rows of the requirements that are left, where some are assumed: when none is left, one row, with the exposure of one
 -- of the pods that meet what is assumed. All of them have the same.
 unfoldable pub rows_left : PodSide → List SidedRequirement → List SidedRequirement → List ExposureRow
-rows_left side [] assumed = row_of side (first_stranger (choices_left (mentions side) assumed)) ∷ []
+rows_left side [] assumed = bare_row side (first_stranger (choices_left (mentions side) assumed)) ∷ []
 rows_left side (asked ∷ left) assumed =
     rows_at asked (can_be_assumed (mentions side) (asked ∷ assumed)) (can_be_assumed (mentions side) (negated asked ∷ assumed))
     (rows_left side left (asked ∷ assumed)) (rows_left side left (negated asked ∷ assumed))

@@ -9,7 +9,7 @@ ghost use Rattle.np_exposure.specs.Strangers.{labels_at};
 ghost use Rattle.np_exposure.specs.steps.Settled.{IsRight};
 ghost use Rattle.np_exposure.specs.steps.States as states;
 ghost use Rattle.np_exposure.specs.steps.States.{IsWitness};
-ghost use Rattle.np_labels.specs.Prelude.{allows, value_of};
+ghost use Rattle.np_labels.specs.Prelude.{op_allows, value_of};
 ghost use Rattle.np_rules.specs.Prelude.{IsAmong};
 ghost use Rattle.np_rules.specs.declared.stranger.Stranger.{Stranger};
 
@@ -90,7 +90,7 @@ impl<'a> KeyChoices<'a> {
     /// Whether the choices meet a requirement on the key, where all of them do, or none.
     pub(crate) fn meet(&self, requirement: &Requirement) -> Option<bool>
         ensures { (found : Option (List ℕ)) → IsAmong found self.now.found →
-            IsRight (allows requirement.now.op requirement.now.values found) result }
+            IsRight (op_allows requirement.now.op requirement.now.values found) result }
     {
         if all_meet(&self.found, requirement) {
             return Some(true);
@@ -161,7 +161,7 @@ impl<'a> KeyChoices<'a> {
 
 // Whether all of them meet a requirement.
 fn all_meet(found: &[Option<&str>], requirement: &Requirement) -> bool
-    ensures { result ≡ list_all (λ one. allows requirement.now.op requirement.now.values (option_map (λ value. value.now) one))
+    ensures { result ≡ list_all (λ one. op_allows requirement.now.op requirement.now.values (option_map (λ value. value.now) one))
         found.now }
 {
     found.iter().all(|one| allows(requirement, *one))
@@ -169,7 +169,7 @@ fn all_meet(found: &[Option<&str>], requirement: &Requirement) -> bool
 
 // Whether some of them meets a requirement.
 fn some_meets(found: &[Option<&str>], requirement: &Requirement) -> bool
-    ensures { result ≡ list_any (λ one. allows requirement.now.op requirement.now.values (option_map (λ value. value.now) one))
+    ensures { result ≡ list_any (λ one. op_allows requirement.now.op requirement.now.values (option_map (λ value. value.now) one))
         found.now }
 {
     found.iter().any(|one| allows(requirement, *one))

@@ -24,7 +24,7 @@ pub(crate) fn labels_of(
     alloc: Global,
     mentions: &[SidedRequirement],
 ) -> Result<Vec<MentionedKey>, NoMemory>
-    ensures { IfOk result (λ made. made.items ≡ spec.labels_of mentions.now) }
+    ensures { IfOk result (λ made. made.items ≡ spec.mentioned_keys mentions.now) }
 {
     let mut labels = Vec::new(alloc);
     add_labels(&mut labels, mentions, Side::Namespace)?;

@@ -217,7 +217,7 @@ fn add_namespaces(
 
 // Adds that the namespace is the one of this name.
 fn add_named(made: &mut Vec<SidedRequirement>, namespace: &str) -> Result<(), NoMemory>
-    ensures { OnOk result (made.new.items ≡ made.old.items ++ spec.named namespace.now ∷ []) }
+    ensures { OnOk result (made.new.items ≡ made.old.items ++ spec.namespace_is namespace.now ∷ []) }
 {
     let alloc = *made.allocator();
     let key = Text::of(alloc, "kubernetes.io/metadata.name")?;

@@ -51,7 +51,7 @@ fn push_requirement(text: &mut String, asked: &SidedRequirement) -> Result<(), N
 
 // The word for a side.
 fn side_name(side: Side) -> &'static str
-    ensures { result.now ≡ spec.side_text side }
+    ensures { result.now ≡ spec.named_side_text side }
 {
     match side {
         Side::Namespace => "namespace",

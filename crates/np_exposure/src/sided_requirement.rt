@@ -1,7 +1,7 @@
 //! A requirement on the labels of a pod or of its namespace.
 ghost use Rattle.std.specs.Prelude.{◌≡◌};
 ghost use Rattle.std.specs.Option.{option_map};
-ghost use Rattle.np_labels.specs.Prelude.{allows, is_listed};
+ghost use Rattle.np_labels.specs.Prelude.{is_listed, op_allows};
 
 use crate::side::Side;
 use np_base::{NoMemory, TryCopy};
@@ -81,7 +81,7 @@ impl TryCopy for SidedRequirement {
 
 /// Whether the value that a key has, or that it has none, is as a requirement asks.
 pub(crate) fn allows(requirement: &Requirement, found: Option<&str>) -> bool
-    ensures { result ≡ allows requirement.now.op requirement.now.values (option_map (λ value. value.now) found.entry) }
+    ensures { result ≡ op_allows requirement.now.op requirement.now.values (option_map (λ value. value.now) found.entry) }
 {
     match requirement.op {
         Op::OneOf => found.is_some_and(|value| lists(requirement, value)),

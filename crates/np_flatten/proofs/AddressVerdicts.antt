@@ -4,21 +4,21 @@ use Rattle.std.specs.List.{AllByRecursion, list_any}
 use Rattle.std.proofs.lemmas.Bool.{and_from, cases_lt, le-leb, lt-leb, true≢false}
 use Rattle.std.proofs.lemmas.List.Folds.{list_any-append}
 use Rattle.np_addr.proofs.RightPrefixes.{prefixes_of-right}
-use Rattle.np_addr.specs.Prelude.{IsAddressSet, block_has, cidr_has, prefixes_of, set_has, some_has}
+use Rattle.np_addr.specs.Prelude.{IsAddressSet, block_has, cidr_has, prefixes_of, set_has, some_block_has}
 use Rattle.np_addr.specs.declared.address.Address.{Address}
 use Rattle.np_addr.specs.declared.address.Address.TheVariants as address
 use Rattle.np_flatten.specs.Prelude.{AddressRow, AddressSpan, Block, Family, NetPeer, NetRule, PortSpot, Proto, Sctp, Tcp, Udp, blocks_of_span, ports_of, ranges_of_span, rule_if, rules_of_addresses}
 use Rattle.np_addr.specs.declared.address.Family.TheVariants as family
 use Rattle.np_addr.specs.declared.cidr.Cidr.{Cidr}
 use Rattle.np_conns.specs.Prelude.{Conns, has_spot, is_spot}
-use Rattle.np_rules.specs.Prelude.{Contact, End, PodEnd, address, net_entry_matches, net_peer_matches, net_rule_matches, none_or_any, pod}
+use Rattle.np_rules.specs.Prelude.{Contact, ModelEnd, PodEnd, address, net_entry_matches, net_peer_matches, net_rule_matches, none_or_any, pod}
 use Rattle.np_flatten.proofs.OnePolicy.{any-agree, any-map}
 use Rattle.np_flatten.proofs.PortLemmas.{is_none-map, none_or_any-some, ports-match}
 use Rattle.np_flatten.proofs.SplitLemmas.{nothing_is}
 use Rattle.np_table.proofs.RangeWalks.{walk-right}
 use Rattle.np_conns.proofs.ConnLemmas.{conns_of-has}
-use Rattle.np_table.specs.Prelude.{AreRight, IsInFamily, Stretch, address_row, four_of, is_none, is_nothing, is_within, rows_of_addresses, six_of, span_has, walk}
-use Rattle.np_kinds.specs.Prelude.{address_of}
+use Rattle.np_table.specs.Prelude.{AreRight, IsInFamily, Stretch, address_row, four_of, has_no_range, is_nothing, is_within, rows_of_addresses, six_of, span_has, walk}
+use Rattle.np_kinds.specs.Prelude.{address_numbered}
 use Rattle.np_table.specs.declared.rows.AddressSpan.TheVariants as span
 
 -- ---- the right list
@@ -149,26 +149,26 @@ span-set (span.Four range) well = ((omega arith, well.0, well.1, tt), tt)
 span-set (span.Six range) well = (tt, (omega arith, well.0, well.1, tt))
 
 -- the set of a span has the addresses of the span
-set-span : (s : AddressSpan) (family : Family) (number : ℕ) → set_has (ranges_of_span s) (address_of family number) ≡ span_has s family number
+set-span : (s : AddressSpan) (family : Family) (number : ℕ) → set_has (ranges_of_span s) (address_numbered family number) ≡ span_has s family number
 set-span (span.Four range) family.Four number = or_false (nat_le range.lo number && nat_le number range.hi)
 set-span (span.Four range) family.Six number = refl
 set-span (span.Six range) family.Four number = refl
 set-span (span.Six range) family.Six number = or_false (nat_le range.lo number && nat_le number range.hi)
 
-blocks-any : (namespace : List ℕ) (cidrs : List Cidr) (a : Address) → list_any (λ peer. net_peer_matches namespace peer (address a)) (map (λ cidr. Block cidr []) cidrs) ≡ some_has cidrs a
+blocks-any : (namespace : List ℕ) (cidrs : List Cidr) (a : Address) → list_any (λ peer. net_peer_matches namespace peer (address a)) (map (λ cidr. Block cidr []) cidrs) ≡ some_block_has cidrs a
 blocks-any namespace cidrs a =
     any-map (λ (peer : NetPeer). net_peer_matches namespace peer (address a)) (λ (cidr : Cidr). Block cidr []) cidrs
     ∙ any-agree (λ (cidr : Cidr). block_has cidr [] a) (λ (cidr : Cidr). cidr_has cidr a) cidrs (λ cidr. and_true (cidr_has cidr a))
 
 -- a peer of a span matches the addresses of the span
 span-any : (namespace : List ℕ) (s : AddressSpan) (family : Family) (number : ℕ) → IsWellSpan s →
-    list_any (λ peer. net_peer_matches namespace peer (address (address_of family number))) (blocks_of_span s) ≡ span_has s family number
+    list_any (λ peer. net_peer_matches namespace peer (address (address_numbered family number))) (blocks_of_span s) ≡ span_has s family number
 span-any namespace s family number well =
-    blocks-any namespace (prefixes_of (ranges_of_span s)) (address_of family number)
-    ∙ (prefixes_of-right (ranges_of_span s) (span-set s well)).exact (address_of family number)
+    blocks-any namespace (prefixes_of (ranges_of_span s)) (address_numbered family number)
+    ∙ (prefixes_of-right (ranges_of_span s) (span-set s well)).exact (address_numbered family number)
     ∙ set-span s family number
 
-some-block : (cidrs : List Cidr) (a : Address) → some_has cidrs a ≡ true → is_none cidrs ≡ false
+some-block : (cidrs : List Cidr) (a : Address) → some_block_has cidrs a ≡ true → has_no_range cidrs ≡ false
 some-block [] a has = absurd (true≢false (sym has))
 some-block (cidr ∷ cidrs) a has = refl
 
@@ -185,7 +185,7 @@ first-there (span.Six range) well = (
 )
 
 -- a span has a block
-span-some : (s : AddressSpan) → IsWellSpan s → is_none (blocks_of_span s) ≡ false
+span-some : (s : AddressSpan) → IsWellSpan s → has_no_range (blocks_of_span s) ≡ false
 span-some s well =
     let first = first-there s well in
     is_none-map (λ (cidr : Cidr). Block cidr []) (prefixes_of (ranges_of_span s))
@@ -201,10 +201,10 @@ nothing-has conns spot is = ap (λ (c : Conns). has_spot c spot) (nothing_is con
     by Udp = refl
     by Sctp = refl
 
-abbrev pub at_address : Family → ℕ → End → PortSpot → Contact
-at_address family number destination spot = record { far = address (address_of family number); destination = destination; family = family; spot = spot }
+abbrev pub at_address : Family → ℕ → ModelEnd → PortSpot → Contact
+at_address family number destination spot = record { far = address (address_numbered family number); destination = destination; family = family; spot = spot }
 
-row-permits : (namespace : List ℕ) (row : AddressRow) (family : Family) (number : ℕ) (destination : End) (spot : PortSpot) → IsWellSpan row.span → is_spot spot ≡ true →
+row-permits : (namespace : List ℕ) (row : AddressRow) (family : Family) (number : ℕ) (destination : ModelEnd) (spot : PortSpot) → IsWellSpan row.span → is_spot spot ≡ true →
     list_any (λ rule. net_rule_matches namespace rule (at_address family number destination spot)) (rule_if (blocks_of_span row.span) row.conns) ≡ row_tells family number spot row
 row-permits namespace row family number destination spot well is = by (is_nothing row.conns) refl
   where
@@ -213,16 +213,16 @@ row-permits namespace row family number destination spot well is = by (is_nothin
         (if nothing then [] else record { peers = blocks_of_span row.span; ports = ports_of row.conns } ∷ []) ≡ row_tells family number spot row
     by true none = sym (ap (λ (b : Bool). span_has row.span family number && b) (nothing-has row.conns spot none) ∙ and_false (span_has row.span family number))
     by false some =
-        or_false (none_or_any (λ peer. net_peer_matches namespace peer (address (address_of family number))) (blocks_of_span row.span) && none_or_any
+        or_false (none_or_any (λ peer. net_peer_matches namespace peer (address (address_numbered family number))) (blocks_of_span row.span) && none_or_any
         (λ entry. net_entry_matches entry destination spot) (ports_of row.conns))
         ∙ rw (
-          none_or_any-some (λ (peer : NetPeer). net_peer_matches namespace peer (address (address_of family number))) (blocks_of_span row.span) (span-some row.span well),
+          none_or_any-some (λ (peer : NetPeer). net_peer_matches namespace peer (address (address_numbered family number))) (blocks_of_span row.span) (span-some row.span well),
           span-any namespace row.span family number well,
           ports-match row.conns destination spot is some,
         ) refl
 
 -- some rule of the ranges of addresses matches an address where some row has it
-pub addresses-permit : (namespace : List ℕ) (rows : List AddressRow) (family : Family) (number : ℕ) (destination : End) (spot : PortSpot) →
+pub addresses-permit : (namespace : List ℕ) (rows : List AddressRow) (family : Family) (number : ℕ) (destination : ModelEnd) (spot : PortSpot) →
     AllByRecursion (λ (row : AddressRow). IsWellSpan row.span) rows → is_spot spot ≡ true →
     list_any (λ rule. net_rule_matches namespace rule (at_address family number destination spot)) (rules_of_addresses rows) ≡ list_any (row_tells family number spot) rows
 addresses-permit namespace [] family number destination spot wells is = refl
@@ -236,7 +236,7 @@ blocks-pod : (namespace : List ℕ) (cidrs : List Cidr) (p : PodEnd) → list_an
 blocks-pod namespace [] p = refl
 blocks-pod namespace (cidr ∷ cidrs) p = blocks-pod namespace cidrs p
 
-row-pod : (namespace : List ℕ) (row : AddressRow) (p : PodEnd) (family : Family) (destination : End) (spot : PortSpot) → IsWellSpan row.span →
+row-pod : (namespace : List ℕ) (row : AddressRow) (p : PodEnd) (family : Family) (destination : ModelEnd) (spot : PortSpot) → IsWellSpan row.span →
     list_any (λ rule. net_rule_matches namespace rule (record { far = pod p; destination = destination; family = family; spot = spot })) (rule_if (blocks_of_span row.span) row.conns) ≡ false
 row-pod namespace row p family destination spot well = by (is_nothing row.conns)
   where
@@ -252,7 +252,7 @@ row-pod namespace row p family destination spot well = by (is_nothing row.conns)
         ) refl
 
 -- no rule of a range of addresses matches a pod
-pub addresses-no_pod : (namespace : List ℕ) (rows : List AddressRow) (p : PodEnd) (family : Family) (destination : End) (spot : PortSpot) →
+pub addresses-no_pod : (namespace : List ℕ) (rows : List AddressRow) (p : PodEnd) (family : Family) (destination : ModelEnd) (spot : PortSpot) →
     AllByRecursion (λ (row : AddressRow). IsWellSpan row.span) rows →
     list_any (λ rule. net_rule_matches namespace rule (record { far = pod p; destination = destination; family = family; spot = spot })) (rules_of_addresses rows) ≡ false
 addresses-no_pod namespace [] p family destination spot wells = refl

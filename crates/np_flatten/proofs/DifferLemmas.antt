@@ -8,7 +8,7 @@ use Rattle.std.proofs.lemmas.Bool.{and_parts, false_from_ne_true, ne_eqb, or_par
 use Rattle.std.proofs.lemmas.Bool.Decides.{Decides-and, Decides-eqb}
 use Rattle.std.proofs.lemmas.List.Folds.{list_any-append}
 use Rattle.std.proofs.lemmas.Slice.Eq.{slice_eq-Decides}
-use Rattle.np_flatten.specs.Prelude.{AddressRow, AddressSpan, Agree, Egress, EstateLists, Ingress, PortSpot, Range, are_same_row, are_same_span, differ, differ_at, differ_towards, is_defined, own_sets, set_of, two_differ}
+use Rattle.np_flatten.specs.Prelude.{AddressRow, AddressSpan, Agree, Egress, EstateLists, Ingress, PortSpot, Range, are_same_address_row, are_same_span, differ, differ_at, differ_towards, is_defined, own_sets, set_of, two_differ}
 use Rattle.np_classes.proofs.Lists.{any_place, place_that_passes, places_more}
 use Rattle.np_classes.specs.Classes.{places}
 use Rattle.np_conns.specs.Prelude.{Conns, are_same_conns, has_spot}
@@ -107,15 +107,15 @@ span_decides (span.Six a) (span.Six b) = (λ is. ap (λ (r : Range ℕ). span.Si
 span_decides (span.Four a) (span.Six b) = (λ is. let never : false ≡ true = is in absurd (cc), λ same. absurd (cc))
 span_decides (span.Six a) (span.Four b) = (λ is. let never : false ≡ true = is in absurd (cc), λ same. absurd (cc))
 
-row_decides : (a b : AddressRow) → Decides (are_same_row a b) (a ≡ b)
+row_decides : (a b : AddressRow) → Decides (are_same_address_row a b) (a ≡ b)
 row_decides a b =
     let parts = Decides-and (are_same_span a.span b.span) (are_same_conns a.conns b.conns) (span_decides a.span b.span) (are_same_conns-Decides a.conns b.conns) in (
       λ is. let both = parts.0 is in ap (λ (s : AddressSpan). record { span = s; conns = a.conns }) both.0 ∙ ap (λ (c : Conns). record { span = b.span; conns = c }) both.1,
       λ same. parts.1 (ap (λ (row : AddressRow). row.span) same, ap (λ (row : AddressRow). row.conns) same),
     )
 
-rows_decide : (a b : List AddressRow) → Decides (pointwise are_same_row a b) (a ≡ b)
-rows_decide a b = slice_eq-Decides row_decides a b (pointwise are_same_row a b) refl
+rows_decide : (a b : List AddressRow) → Decides (pointwise are_same_address_row a b) (a ≡ b)
+rows_decide a b = slice_eq-Decides row_decides a b (pointwise are_same_address_row a b) refl
 
 -- ---- all of it
 

@@ -13,9 +13,9 @@ use Rattle.np_classes.specs.Classes.{firsts, places}
 use Rattle.np_conns.specs.Prelude.{Conns, has_spot, is_spot}
 use Rattle.np_model.specs.Prelude.{IsLawful, SaysItsNamespace, families_of}
 use Rattle.np_fold.proofs.WorkloadLemmas.{number-in_workloads, one_workload}
-use Rattle.np_fold.specs.Prelude.{folding_of, number_of}
+use Rattle.np_fold.specs.Prelude.{folding_of, workload_number}
 use Rattle.np_labels.specs.Prelude.{value_of}
-use Rattle.np_rules.specs.Prelude.{Contact, End, PodEnd, address, allows, net_entry_matches, net_peer_matches, net_rule_matches, net_rules_of, net_selects, no_pod, none_or_any, pod, pod_at, pod_end, side_allows}
+use Rattle.np_rules.specs.Prelude.{Contact, ModelEnd, PodEnd, address, allows, net_entry_matches, net_peer_matches, net_rule_matches, net_rules_of, net_selects, no_pod, none_or_any, pod, pod_at, pod_end, side_allows}
 use Rattle.np_flatten.proofs.AddressVerdicts.{IsWellSpan, addresses-no_pod, addresses-permit, any-never, at_address, nothing-has, row_tells, rows-any, rows-well}
 use Rattle.np_flatten.proofs.ClassFirsts.{first-alike}
 use Rattle.np_flatten.proofs.DifferLemmas.{own_rows}
@@ -25,7 +25,7 @@ use Rattle.np_flatten.proofs.KindGroups.{kind-looks}
 use Rattle.np_flatten.proofs.OnePolicy.{any-agree, any-flat_map, only-one, side-by_one}
 use Rattle.np_flatten.proofs.PortLemmas.{ports-match}
 use Rattle.np_flatten.proofs.SelectLemmas.{meets-namespace_named, meets-selector_of}
-use Rattle.np_kinds.specs.Prelude.{address_allows, address_of, between_pods, first_end, number_of_workloads, pair_allows, source_pod, with_address}
+use Rattle.np_kinds.specs.Prelude.{address_allows, address_numbered, between_pods, first_end, number_of_workloads, pair_allows, source_pod, with_address}
 use Rattle.np_kinds.proofs.MemberLemmas.{member-number, members-some, members-within, not-alone, own-member, source-member}
 use Rattle.np_kinds.proofs.PairLemmas.{between_pods-pair_allows, pod_there, with_address-address_allows}
 use Rattle.np_conns.proofs.ConnLemmas.{conns_of-has}
@@ -33,15 +33,15 @@ use Rattle.np_table.specs.Prelude.{IsInFamily, address_rows, estate_table, is_no
 
 -- ---- pods and groups
 
-number-within : (lists : EstateLists) (p : ℕ) → p < length lists.pods → number_of lists p < number_of_workloads lists
+number-within : (lists : EstateLists) (p : ℕ) → p < length lists.pods → workload_number lists p < number_of_workloads lists
 unfolding folding_of
 number-within lists p within = number-in_workloads lists p within
 
 -- what selectors see of a pod is what they see of the first pod of its workload
-seen-pod : (lists : EstateLists) (p : ℕ) → p < length lists.pods → seen (relevant lists) (pod_at lists p) ≡ seen (relevant lists) (first_end lists (number_of lists p))
+seen-pod : (lists : EstateLists) (p : ℕ) → p < length lists.pods → seen (relevant lists) (pod_at lists p) ≡ seen (relevant lists) (first_end lists (workload_number lists p))
 seen-pod lists p within =
     let folding = folding_of lists in
-    let x = number_of lists p in
+    let x = workload_number lists p in
     let x_in = number-within lists p within in
     let near = source_pod folding x in
     let has = source-member folding x (members-some lists folding x refl x_in) in
@@ -55,10 +55,10 @@ seen-pod lists p within =
 
 -- the group of a pod
 abbrev group_at : EstateLists → ℕ → ℕ
-group_at lists p = group_of lists (number_of lists p)
+group_at lists p = group_of lists (workload_number lists p)
 
 group-within : (lists : EstateLists) (p : ℕ) → p < length lists.pods → group_at lists p < group_count lists
-group-within lists p within = class_within (are_together lists) (number_of_workloads lists) (together-is lists (number_of_workloads lists)) (number_of lists p) (number-within lists p within)
+group-within lists p within = class_within (are_together lists) (number_of_workloads lists) (together-is lists (number_of_workloads lists)) (workload_number lists p) (number-within lists p within)
 
 -- whether a pod is as the first pod of a group, as far as selectors see
 abbrev has_pod : EstateLists → ℕ → ℕ → Bool
@@ -68,7 +68,7 @@ has_pod lists group p = look_alike (relevant lists) (first_end lists (first_of_g
 own-pod : (lists : EstateLists) (p : ℕ) → p < length lists.pods → has_pod lists (group_at lists p) p ≡ true
 unfolding are_together
 own-pod lists p within =
-    let x = number_of lists p in
+    let x = workload_number lists p in
     let first = first_of_group lists (group_at lists p) in
     let tied = first-alike (are_together lists) (number_of_workloads lists) (together-is lists (number_of_workloads lists)) x (number-within lists p within) in
     (look_decides (relevant lists) (first_end lists first) (pod_at lists p)).1
@@ -80,7 +80,7 @@ unfolding are_together
 other-pod lists p group within below apart =
     false_from_ne_true (has_pod lists group p) (λ yes.
     let n = number_of_workloads lists in
-    let x = number_of lists p in
+    let x = workload_number lists p in
     let first = first_of_group lists group in
     let lawful = together-is lists n in
     let at = slice_get-get_or (firsts (are_together lists) n) group 0 below in
@@ -146,11 +146,11 @@ set-any : (namespace : List ℕ) (peer : NetPeer) (set : Option Conns) (contact 
 set-any namespace peer None contact is = sym (and_false (net_peer_matches namespace peer contact.far))
 set-any namespace peer (Some set) contact is = rule-any namespace peer set contact is
 
-abbrev from_pod : EstateLists → ℕ → End → Family → PortSpot → Contact
+abbrev from_pod : EstateLists → ℕ → ModelEnd → Family → PortSpot → Contact
 from_pod lists p destination family spot = record { far = pod (pod_at lists p); destination = destination; family = family; spot = spot }
 
 -- the rules of all groups allow a pod what its own group may send
-groups-any : (lists : EstateLists) (namespace : List ℕ) (group p : ℕ) (destination : End) (family : Family) (spot : PortSpot) → IsLawful lists → p < length lists.pods → is_spot spot ≡ true →
+groups-any : (lists : EstateLists) (namespace : List ℕ) (group p : ℕ) (destination : ModelEnd) (family : Family) (spot : PortSpot) → IsLawful lists → p < length lists.pods → is_spot spot ≡ true →
     list_any (λ rule. net_rule_matches namespace rule (from_pod lists p destination family spot)) (rules_from_groups lists group) ≡ told (set_from lists (group_at lists p) group) spot
 groups-any lists namespace group p destination family spot lawful within is =
     let contact = from_pod lists p destination family spot in
@@ -163,7 +163,7 @@ groups-any lists namespace group p destination family spot lawful within is =
     ∙ ap (λ (b : Bool). b && told (set_from lists (group_at lists p) group) spot) (own-pod lists p within)
 
 -- and no address
-groups-no_address : (lists : EstateLists) (namespace : List ℕ) (group : ℕ) (family : Family) (number : ℕ) (destination : End) (spot : PortSpot) → is_spot spot ≡ true →
+groups-no_address : (lists : EstateLists) (namespace : List ℕ) (group : ℕ) (family : Family) (number : ℕ) (destination : ModelEnd) (spot : PortSpot) → is_spot spot ≡ true →
     list_any (λ rule. net_rule_matches namespace rule (at_address family number destination spot)) (rules_from_groups lists group) ≡ false
 groups-no_address lists namespace group family number destination spot is =
     let contact = at_address family number destination spot in
@@ -196,7 +196,7 @@ side-is lists p direction contact within =
     (has-rules lists (group_at lists p) direction)
 
 -- a pod may send to every pod
-egress-pod : (lists : EstateLists) (p q : ℕ) (destination : End) (family : Family) (spot : PortSpot) → p < length lists.pods →
+egress-pod : (lists : EstateLists) (p q : ℕ) (destination : ModelEnd) (family : Family) (spot : PortSpot) → p < length lists.pods →
     side_allows (flattened lists) Egress (pod_at lists p) (from_pod lists q destination family spot) ≡ true
 egress-pod lists p q destination family spot within = side-is lists p Egress (from_pod lists q destination family spot) within
 
@@ -205,7 +205,7 @@ unfolding address_rows
 wells lists group direction = rows-well ((estate_table lists).addresses (first_of_group lists group) direction)
 
 -- and receive of it what its group may send
-ingress-pod : (lists : EstateLists) (q p : ℕ) (destination : End) (family : Family) (spot : PortSpot) → IsLawful lists → q < length lists.pods → p < length lists.pods → is_spot spot ≡ true →
+ingress-pod : (lists : EstateLists) (q p : ℕ) (destination : ModelEnd) (family : Family) (spot : PortSpot) → IsLawful lists → q < length lists.pods → p < length lists.pods → is_spot spot ≡ true →
     side_allows (flattened lists) Ingress (pod_at lists q) (from_pod lists p destination family spot) ≡ told (set_from lists (group_at lists p) (group_at lists q)) spot
 ingress-pod lists q p destination family spot lawful q_in p_in is =
     let name = name_of_group lists (group_at lists q) in
@@ -221,16 +221,16 @@ ingress-pod lists q p destination family spot lawful q_in p_in is =
 -- ---- addresses
 
 own-rows : (lists : EstateLists) → flat_fault lists ≡ None → (p : ℕ) (direction : Direction) → p < length lists.pods →
-    group_rows lists (group_at lists p) direction ≡ address_rows (estate_table lists) (number_of lists p) direction
+    group_rows lists (group_at lists p) direction ≡ address_rows (estate_table lists) (workload_number lists p) direction
 own-rows lists fine p direction within =
-    let x = number_of lists p in
+    let x = workload_number lists p in
     let x_in = number-within lists p within in
     let first = first-of lists x x_in in
     let same = group-rows lists fine (first_of_group lists (group_at lists p)) x first.0 x_in first.1 in
     by direction same
   where
-    by : (d : Direction) → own_rows lists (first_of_group lists (group_at lists p)) ≡ own_rows lists (number_of lists p) →
-        group_rows lists (group_at lists p) d ≡ address_rows (estate_table lists) (number_of lists p) d
+    by : (d : Direction) → own_rows lists (first_of_group lists (group_at lists p)) ≡ own_rows lists (workload_number lists p) →
+        group_rows lists (group_at lists p) d ≡ address_rows (estate_table lists) (workload_number lists p) d
     by Ingress same = ap (λ (rows : List AddressRow × List AddressRow). rows.0) same
     by Egress same = ap (λ (rows : List AddressRow × List AddressRow). rows.1) same
 
@@ -240,18 +240,18 @@ unfolding address_rows table_of
 row-any lists x direction family number spot within is = rows-any (address_allows lists (folding_of lists) x direction) family number spot within is
 
 -- the rules of addresses of a pod's group allow an address what the whole estate does
-addresses-any : (lists : EstateLists) → flat_fault lists ≡ None → (namespace : List ℕ) (p : ℕ) (direction : Direction) (family : Family) (number : ℕ) (destination : End) (spot : PortSpot) →
+addresses-any : (lists : EstateLists) → flat_fault lists ≡ None → (namespace : List ℕ) (p : ℕ) (direction : Direction) (family : Family) (number : ℕ) (destination : ModelEnd) (spot : PortSpot) →
     p < length lists.pods → IsInFamily family number → is_spot spot ≡ true →
     list_any (λ rule. net_rule_matches namespace rule (at_address family number destination spot)) (rules_of_addresses (group_rows lists (group_at lists p) direction)) ≡ address_allows lists
-    (folding_of lists) (number_of lists p) direction family number spot
+    (folding_of lists) (workload_number lists p) direction family number spot
 addresses-any lists fine namespace p direction family number destination spot within in_family is =
     addresses-permit namespace (group_rows lists (group_at lists p) direction) family number destination spot (wells lists (group_at lists p) direction) is
     ∙ ap (list_any (row_tells family number spot)) (own-rows lists fine p direction within)
-    ∙ row-any lists (number_of lists p) direction family number spot in_family is
+    ∙ row-any lists (workload_number lists p) direction family number spot in_family is
 
-address-side : (lists : EstateLists) → flat_fault lists ≡ None → (p : ℕ) (direction : Direction) (family : Family) (number : ℕ) (destination : End) (spot : PortSpot) → p < length lists.pods →
+address-side : (lists : EstateLists) → flat_fault lists ≡ None → (p : ℕ) (direction : Direction) (family : Family) (number : ℕ) (destination : ModelEnd) (spot : PortSpot) → p < length lists.pods →
     IsInFamily family number → is_spot spot ≡ true →
-    side_allows (flattened lists) direction (pod_at lists p) (at_address family number destination spot) ≡ address_allows lists (folding_of lists) (number_of lists p) direction family number spot
+    side_allows (flattened lists) direction (pod_at lists p) (at_address family number destination spot) ≡ address_allows lists (folding_of lists) (workload_number lists p) direction family number spot
 address-side lists fine p Ingress family number destination spot within in_family is =
     let name = name_of_group lists (group_at lists p) in
     let contact = at_address family number destination spot in
@@ -280,11 +280,11 @@ addresses-same lists p direction family number spot lawful fine within in_family
     and_true true = refl
     and_true false = refl
 
-    flat : (d : Direction) → with_address (flattened lists) d (pod (pod_at lists p)) family number spot ≡ address_allows lists (folding_of lists) (number_of lists p) d family number spot
+    flat : (d : Direction) → with_address (flattened lists) d (pod (pod_at lists p)) family number spot ≡ address_allows lists (folding_of lists) (workload_number lists p) d family number spot
     flat Ingress = address-side lists fine p Ingress family number (pod (pod_at lists p)) spot within in_family is
     flat Egress =
-        and_true (side_allows (flattened lists) Egress (pod_at lists p) (at_address family number (address (address_of family number)) spot))
-        ∙ address-side lists fine p Egress family number (address (address_of family number)) spot within in_family is
+        and_true (side_allows (flattened lists) Egress (pod_at lists p) (at_address family number (address (address_numbered family number)) spot))
+        ∙ address-side lists fine p Egress family number (address (address_numbered family number)) spot within in_family is
 
 set-has : (lists : EstateLists) (family : Family) (x y : ℕ) (spot : PortSpot) → is_spot spot ≡ true → has_spot (set_in lists family x y) spot ≡ pair_allows lists (folding_of lists) x y family spot
 unfolding set_in
@@ -295,8 +295,8 @@ pub pods-same : (lists : EstateLists) (p q : ℕ) (family : Family) (spot : Port
     Contains (families_of lists.pods) family → is_spot spot ≡ true → between_pods (flattened lists) p q family spot ≡ between_pods lists p q family spot
 unfolding allows
 pods-same lists p q family spot lawful fine p_in q_in apart listed is =
-    let x = number_of lists p in
-    let y = number_of lists q in
+    let x = workload_number lists p in
+    let y = workload_number lists q in
     let x_in = number-within lists p p_in in
     let y_in = number-within lists q q_in in
     let defined : is_defined lists x y ≡ true = ap not (not-alone (folding_of lists) x y p q (own-member lists p p_in) (own-member lists q q_in) apart) in

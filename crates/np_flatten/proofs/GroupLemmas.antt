@@ -14,7 +14,7 @@ use Rattle.std.proofs.lemmas.Option.{same_Some, slice_get-get_or, slice_get-map}
 use Rattle.np_classes.proofs.Lists.{All-places, map_agree_on, places_more}
 use Rattle.np_classes.proofs.Relations.{class_of_agree, firsts_agree}
 use Rattle.np_classes.specs.Classes.{IsAlike, class_of, firsts, keys_tie, places}
-use Rattle.np_flatten.specs.Prelude.{EstateLists, Traits, are_together, group_firsts, group_of, have_same_value, look_alike, relevant, seen, seen_at}
+use Rattle.np_flatten.specs.Prelude.{EstateLists, Traits, are_together, ends_have_same_value, group_firsts, group_of, look_alike, relevant, seen, seen_at}
 use Rattle.np_fold.proofs.LabelLemmas.{Decides-listed, labels-from_values, values-from_labels}
 use Rattle.np_fold.proofs.OrderLemmas.{ties-equal}
 use Rattle.np_fold.specs.Prelude.{compare_traits, label_of}
@@ -30,10 +30,10 @@ values_decide None (Some y) = (λ is. let never : false ≡ true = is in cc, λ 
 values_decide (Some x) None = (λ is. let never : false ≡ true = is in cc, λ same. cc)
 values_decide (Some x) (Some y) = Decides-like (bytes_eq x y) (ap Some) (same_Some x y) (bytes_decides x y)
 
-labels_all : (keys : List (List ℕ)) (p q : PodEnd) → Decides (list_all (have_same_value p q) keys) (filter_map (label_of p.labels) keys ≡ filter_map (label_of q.labels) keys)
+labels_all : (keys : List (List ℕ)) (p q : PodEnd) → Decides (list_all (ends_have_same_value p q) keys) (filter_map (label_of p.labels) keys ≡ filter_map (label_of q.labels) keys)
 labels_all keys p q =
-    Decides-like (list_all (have_same_value p q) keys) (labels-from_values p.labels q.labels keys) (values-from_labels p.labels q.labels keys)
-    (Decides-listed (have_same_value p q) (λ key. value_of p.labels key ≡ value_of q.labels key) (λ key. values_decide (value_of p.labels key) (value_of q.labels key)) keys)
+    Decides-like (list_all (ends_have_same_value p q) keys) (labels-from_values p.labels q.labels keys) (values-from_labels p.labels q.labels keys)
+    (Decides-listed (ends_have_same_value p q) (λ key. value_of p.labels key ≡ value_of q.labels key) (λ key. values_decide (value_of p.labels key) (value_of q.labels key)) keys)
 
 -- pods look alike where the same is seen of them
 pub look_decides : (keys : List (List ℕ)) (p q : PodEnd) → Decides (look_alike keys p q) (seen keys p ≡ seen keys q)
@@ -41,7 +41,7 @@ look_decides keys p q =
     Decides-like (look_alike keys p q)
     (λ same. rw (same.0, same.1) refl)
     (λ equal. (ap (λ (t : Traits). t.namespace) equal, ap (λ (t : Traits). t.labels) equal))
-    (Decides-and (bytes_eq p.namespace q.namespace) (list_all (have_same_value p q) keys) (bytes_decides p.namespace q.namespace) (labels_all keys p q))
+    (Decides-and (bytes_eq p.namespace q.namespace) (list_all (ends_have_same_value p q) keys) (bytes_decides p.namespace q.namespace) (labels_all keys p q))
 
 ties_decide : (x y : Traits) → Decides (is_eq (compare_traits x y)) (x ≡ y)
 ties_decide x y = Decides-like (is_eq (compare_traits x y)) (ties-equal x y).0 (ties-equal x y).1 (Equal-is (compare_traits x y))

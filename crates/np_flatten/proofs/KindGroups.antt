@@ -5,7 +5,7 @@ use Rattle.std.specs.List.{list_all}
 use Rattle.std.specs.Str.{bytes_eq}
 use Rattle.std.specs.Cmp.Lexicographic.{bytes_decides}
 use Rattle.std.proofs.lemmas.Bool.{and_from}
-use Rattle.np_flatten.specs.Prelude.{AddressRow, Direction, Egress, EstateLists, Family, Four, Ingress, IsLeastUnlike, Pod, PortSpot, Six, are_together, differ, family_of_list, first_pair, first_with, have_same_value, is_defined, is_unlike, look_alike, relevant, set_in, set_of}
+use Rattle.np_flatten.specs.Prelude.{AddressRow, Direction, Egress, EstateLists, Family, Four, Ingress, IsLeastUnlike, Pod, PortSpot, Six, are_together, differ, ends_have_same_value, family_of_list, first_pair, first_with, is_defined, is_unlike, look_alike, relevant, set_in, set_of}
 use Rattle.np_classes.specs.Classes.{IsAlike, class_of}
 use Rattle.np_model.specs.Prelude.{IsLawful}
 use Rattle.np_fold.proofs.AlikeLemmas.{kinds-are}
@@ -58,9 +58,9 @@ all-listed test (first ∷ keys) each =
 -- pods of one kind look alike to selectors
 pub kind-looks : (lists : EstateLists) (a b : Pod) → IsSameKind lists a b → look_alike (relevant lists) (pod_end a) (pod_end b) ≡ true
 kind-looks lists a b kind =
-    and_from (bytes_eq a.namespace b.namespace) (list_all (have_same_value (pod_end a) (pod_end b)) (relevant lists))
+    and_from (bytes_eq a.namespace b.namespace) (list_all (ends_have_same_value (pod_end a) (pod_end b)) (relevant lists))
     ((bytes_decides a.namespace b.namespace).1 kind.namespace)
-    (all-listed (have_same_value (pod_end a) (pod_end b)) (relevant lists) (λ key here.
+    (all-listed (ends_have_same_value (pod_end a) (pod_end b)) (relevant lists) (λ key here.
     (values_decide (value_of a.labels key) (value_of b.labels key)).1
     (kind.labels key (sym (keys-agree (relevant lists) (relevant lists) (keys_of_estate lists) refl (relevant-is lists) key) ∙ here))))
 

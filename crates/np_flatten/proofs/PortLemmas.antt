@@ -6,38 +6,38 @@ use Rattle.std.proofs.lemmas.List.Folds.{list_any-append}
 use Rattle.np_base.specs.Ranges.{holds}
 use Rattle.np_flatten.specs.Prelude.{NetPort, PortSpot, Proto, Range, Sctp, Tcp, Udp, ports_of, span_of, spans_of_all}
 use Rattle.np_conns.specs.Prelude.{Conns, has_spot, is_spot, is_whole, same_proto}
-use Rattle.np_rules.specs.Prelude.{End, net_entry_matches, none_or_any}
-use Rattle.np_table.specs.Prelude.{is_none, is_nothing}
+use Rattle.np_rules.specs.Prelude.{ModelEnd, net_entry_matches, none_or_any}
+use Rattle.np_table.specs.Prelude.{has_no_range, is_nothing}
 
 -- ---- lists
 
-is_none-append : {X : Type 0} (xs ys : List X) → is_none (xs ++ ys) ≡ (is_none xs && is_none ys)
+is_none-append : {X : Type 0} (xs ys : List X) → has_no_range (xs ++ ys) ≡ (has_no_range xs && has_no_range ys)
 is_none-append [] ys = refl
 is_none-append (x ∷ xs) ys = refl
 
-pub is_none-map : {X Y : Type 0} (f : X → Y) (xs : List X) → is_none (map f xs) ≡ is_none xs
+pub is_none-map : {X Y : Type 0} (f : X → Y) (xs : List X) → has_no_range (map f xs) ≡ has_no_range xs
 is_none-map f [] = refl
 is_none-map f (x ∷ xs) = refl
 
 -- items that are there restrict
-pub none_or_any-some : {X : Type 0} (p : X → Bool) (xs : List X) → is_none xs ≡ false → none_or_any p xs ≡ list_any p xs
+pub none_or_any-some : {X : Type 0} (p : X → Bool) (xs : List X) → has_no_range xs ≡ false → none_or_any p xs ≡ list_any p xs
 none_or_any-some p [] some = absurd (true≢false some)
 none_or_any-some p (x ∷ xs) some = refl
 
-spans-some : (conns : Conns) → is_nothing conns ≡ false → is_none (spans_of_all conns) ≡ false
+spans-some : (conns : Conns) → is_nothing conns ≡ false → has_no_range (spans_of_all conns) ≡ false
 spans-some conns some =
     is_none-append (map (span_of Tcp) conns.tcp ++ map (span_of Udp) conns.udp) (map (span_of Sctp) conns.sctp)
-    ∙ ap (λ (b : Bool). b && is_none (map (span_of Sctp) conns.sctp)) (is_none-append (map (span_of Tcp) conns.tcp) (map (span_of Udp) conns.udp))
+    ∙ ap (λ (b : Bool). b && has_no_range (map (span_of Sctp) conns.sctp)) (is_none-append (map (span_of Tcp) conns.tcp) (map (span_of Udp) conns.udp))
     ∙ rw (is_none-map (span_of Tcp) conns.tcp, is_none-map (span_of Udp) conns.udp, is_none-map (span_of Sctp) conns.sctp) some
 
 -- ---- the spans of one protocol
 
-own-spans : (proto : Proto) (runs : List (Range ℕ)) (destination : End) (spot : PortSpot) → same_proto spot.proto proto ≡ true →
+own-spans : (proto : Proto) (runs : List (Range ℕ)) (destination : ModelEnd) (spot : PortSpot) → same_proto spot.proto proto ≡ true →
     list_any (λ entry. net_entry_matches entry destination spot) (map (span_of proto) runs) ≡ holds (λ port. port) runs spot.port
 own-spans proto [] destination spot same = refl
 own-spans proto (run ∷ runs) destination spot same = rw (same, own-spans proto runs destination spot same) refl
 
-other-spans : (proto : Proto) (runs : List (Range ℕ)) (destination : End) (spot : PortSpot) → same_proto spot.proto proto ≡ false →
+other-spans : (proto : Proto) (runs : List (Range ℕ)) (destination : ModelEnd) (spot : PortSpot) → same_proto spot.proto proto ≡ false →
     list_any (λ entry. net_entry_matches entry destination spot) (map (span_of proto) runs) ≡ false
 other-spans proto [] destination spot apart = refl
 other-spans proto (run ∷ runs) destination spot apart = rw (apart, other-spans proto runs destination spot apart) refl
@@ -46,7 +46,7 @@ or_false : (b : Bool) → (b || false) ≡ b
 or_false true = refl
 or_false false = refl
 
-all-spans : (conns : Conns) (destination : End) (spot : PortSpot) → list_any (λ entry. net_entry_matches entry destination spot) (spans_of_all conns) ≡ has_spot conns spot
+all-spans : (conns : Conns) (destination : ModelEnd) (spot : PortSpot) → list_any (λ entry. net_entry_matches entry destination spot) (spans_of_all conns) ≡ has_spot conns spot
 all-spans conns destination spot =
     list_any-append (λ (entry : NetPort). net_entry_matches entry destination spot) (map (span_of Tcp) conns.tcp ++ map (span_of Udp) conns.udp) (map (span_of Sctp) conns.sctp)
     ∙ ap (λ (b : Bool). b || list_any (λ entry. net_entry_matches entry destination spot) (map (span_of Sctp) conns.sctp))
@@ -105,7 +105,7 @@ whole-has conns spot is whole = by spot.proto
     by Sctp = whole-holds conns.sctp spot is outer.1
 
 -- the ports of a set that is not empty match the spots of the set
-pub ports-match : (conns : Conns) (destination : End) (spot : PortSpot) → is_spot spot ≡ true → is_nothing conns ≡ false →
+pub ports-match : (conns : Conns) (destination : ModelEnd) (spot : PortSpot) → is_spot spot ≡ true → is_nothing conns ≡ false →
     none_or_any (λ entry. net_entry_matches entry destination spot) (ports_of conns) ≡ has_spot conns spot
 ports-match conns destination spot is some = by (is_whole conns.tcp && is_whole conns.udp && is_whole conns.sctp) refl
   where

@@ -4,7 +4,7 @@ use Rattle.std.proofs.Common.{◌≡◌, ◌⊎◌, ℕ, ◌<◌, List, [], ◌�
 use Rattle.std.specs.List.{Contains}
 use Rattle.std.proofs.lemmas.Bool.{and_parts, lt-ltb, ltb-true, true≢false}
 use Rattle.std.proofs.lemmas.List.Elements.{All-contains, All-from_recursion}
-use Rattle.np_flatten.specs.Prelude.{AddressRow, Alike, AreFamiliesAlike, AreTreatedAlike, ComesBefore, Direction, Egress, EstateLists, Family, Four, Ingress, PassTheSame, PortSpot, Six, Split, are_together, differ, family_of_list, fault_by, first_family, first_pair, flat_fault, is_defined, is_split, is_unlike, set_in, set_of, two_differ}
+use Rattle.np_flatten.specs.Prelude.{AddressRow, Alike, AreFamiliesAlike, AreTreatedAlike, Direction, Egress, EstateLists, Family, Four, Ingress, IsLexicallyBefore, PassTheSame, PortSpot, Six, Split, are_together, differ, family_of_list, fault_by, first_family, first_pair, flat_fault, is_defined, is_split, is_unlike, set_in, set_of, two_differ}
 use Rattle.np_conns.specs.Prelude.{Conns, has_spot, is_spot}
 use Rattle.np_model.specs.Prelude.{families_of}
 use Rattle.np_fold.specs.Prelude.{folding_of}
@@ -119,7 +119,7 @@ alike_found None (Some pair) a b is =
     (refl, ap Some (ap (λ (n : ℕ). (n, pair.1)) one ∙ ap (λ (n : ℕ). (a, n)) other))
 alike_found None None a b is = absurd (cc)
 
-is_before : (test : ℕ → ℕ → Bool) (count a b c d : ℕ) → first_pair test count ≡ Some (a, b) → c < count → d < count → ComesBefore c d a b → test c d ≡ false
+is_before : (test : ℕ → ℕ → Bool) (count a b c d : ℕ) → first_pair test count ≡ Some (a, b) → c < count → d < count → IsLexicallyBefore c d a b → test c d ≡ false
 is_before test count a b c d found c_in d_in (inl less) = (first_pair-is_first test count (a, b) found).earlier c d (omega arith) less d_in
 is_before test count a b c d found c_in d_in (inr same) = ap (λ (n : ℕ). test n d) same.0 ∙ (first_pair-is_first test count (a, b) found).before d same.1
 
@@ -131,7 +131,7 @@ module _ (lists : EstateLists) (a b : ℕ) (is : flat_fault lists ≡ Some (Spli
   pub split_differs : AreFamiliesAlike lists a b → ⊥
   split_differs alike = true≢false (sym (first_pair-is_first (is_split lists) (number_of_workloads lists) (a, b) split_first).is ∙ families_alike lists a b alike)
 
-  pub split_is_first : (c d : ℕ) → c < number_of_workloads lists → d < number_of_workloads lists → ComesBefore c d a b → AreFamiliesAlike lists c d
+  pub split_is_first : (c d : ℕ) → c < number_of_workloads lists → d < number_of_workloads lists → IsLexicallyBefore c d a b → AreFamiliesAlike lists c d
   split_is_first c d c_in d_in before = not_split lists c d (is_before (is_split lists) (number_of_workloads lists) a b c d split_first c_in d_in before)
 
 module _ (lists : EstateLists) (a b : ℕ) (is : flat_fault lists ≡ Some (Alike a b)) where
@@ -155,7 +155,7 @@ module _ (lists : EstateLists) (a b : ℕ) (is : flat_fault lists ≡ Some (Alik
       let a_in : a < number_of_workloads lists = omega (arith, first.high) in
       true≢false (sym parts.1 ∙ from_agree lists a b a_in first.within (λ same. absurd (omega (arith, less, same))) (agree_alike lists a b alike))
 
-  pub alike_is_first : (c d : ℕ) → d < number_of_workloads lists → c < d → are_together lists c d ≡ true → ComesBefore c d a b → AreTreatedAlike lists c d
+  pub alike_is_first : (c d : ℕ) → d < number_of_workloads lists → c < d → are_together lists c d ≡ true → IsLexicallyBefore c d a b → AreTreatedAlike lists c d
   alike_is_first c d d_in less together before =
       let c_in : c < number_of_workloads lists = omega (arith, d_in, less) in
       let none = is_before (is_unlike lists) (number_of_workloads lists) a b c d alike_first.1 c_in d_in before in

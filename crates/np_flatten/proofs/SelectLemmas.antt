@@ -4,7 +4,7 @@ use Rattle.std.specs.List.{list_all}
 use Rattle.std.specs.Option.{option_eq}
 use Rattle.std.specs.Str.{bytes_eq}
 use Rattle.np_labels.specs.Prelude.{meets_requirement, meets_selector, value_of}
-use Rattle.np_flatten.specs.Prelude.{Pair, namespace_named, requirement_at, requirement_of_key, selector_of}
+use Rattle.np_flatten.specs.Prelude.{Pair, namespace_named, requirement_at, requirement_of_key, selector_of_keys}
 
 or_false : (b : Bool) → (b || false) ≡ b
 or_false true = refl
@@ -27,7 +27,7 @@ meets-key key own labels = requirement-by key labels (value_of own key) (value_o
 
 -- labels meet the selector where they have the same values of the keys
 pub meets-selector_of : (keys : List (List ℕ)) (own labels : List Pair) →
-    meets_selector (selector_of keys own) labels ≡ list_all (λ key. option_eq bytes_eq (value_of own key) (value_of labels key)) keys
+    meets_selector (selector_of_keys keys own) labels ≡ list_all (λ key. option_eq bytes_eq (value_of own key) (value_of labels key)) keys
 meets-selector_of [] own labels = refl
 meets-selector_of (key ∷ keys) own labels =
     rw (meets-key key own labels) (ap (λ (rest : Bool). option_eq bytes_eq (value_of own key) (value_of labels key) && rest) (meets-selector_of keys own labels))

@@ -14,7 +14,7 @@ use Rattle.np_fold.specs.Prelude.{Workload, folding_of}
 use Rattle.np_flatten.proofs.FirstPairs.{first_pair-none}
 use Rattle.np_kinds.proofs.PairLemmas.{pair_allows-alone}
 use Rattle.np_conns.proofs.ConnLemmas.{are_same_conns-Decides, conns_of-agrees}
-use Rattle.np_table.specs.Prelude.{Table, address_rows, all_address_rows, all_pair_rows, all_rows, estate_table, is_none, is_nothing, pair_key, pair_rows, row_if, row_of, rows_in, rows_towards, table_of, workloads}
+use Rattle.np_table.specs.Prelude.{Table, address_rows, all_address_rows, all_pair_rows, all_rows, estate_table, has_no_range, is_nothing, pair_key, pair_rows, row_if, row_of, rows_in, rows_towards, table_of, workloads}
 use Rattle.np_kinds.specs.Prelude.{is_alone, number_of_workloads}
 
 -- ---- rows of several lists
@@ -64,14 +64,14 @@ flat_map-unmarked f (k ∷ ks) none =
 
 pub nothing_is : (conns : Conns) → is_nothing conns ≡ true → conns ≡ record { tcp = []; udp = []; sctp = [] }
 nothing_is conns is =
-    let outer = and_parts (is_none conns.tcp && is_none conns.udp) (is_none conns.sctp) is in
-    let inner = and_parts (is_none conns.tcp) (is_none conns.udp) outer.0 in
+    let outer = and_parts (has_no_range conns.tcp && has_no_range conns.udp) (has_no_range conns.sctp) is in
+    let inner = and_parts (has_no_range conns.tcp) (has_no_range conns.udp) outer.0 in
     let with_tcp : List (Range ℕ) → Conns = λ ranges. record { tcp = ranges; udp = conns.udp; sctp = conns.sctp } in
     let with_udp : List (Range ℕ) → Conns = λ ranges. record { tcp = []; udp = ranges; sctp = conns.sctp } in
     let with_sctp : List (Range ℕ) → Conns = λ ranges. record { tcp = []; udp = []; sctp = ranges } in
     ap with_tcp (none_is conns.tcp inner.0) ∙ ap with_udp (none_is conns.udp inner.1) ∙ ap with_sctp (none_is conns.sctp outer.1)
   where
-    none_is : (ranges : List (Range ℕ)) → is_none ranges ≡ true → ranges ≡ []
+    none_is : (ranges : List (Range ℕ)) → has_no_range ranges ≡ true → ranges ≡ []
     none_is [] is = refl
     none_is (range ∷ ranges) is = let never : false ≡ true = is in absurd (cc)
 

@@ -65,13 +65,13 @@ are_same_span (span.Six one) (span.Six other) = are_same_range one other
 are_same_span (span.Four one) (span.Six other) = false
 are_same_span (span.Six one) (span.Four other) = false
 
-abbrev pub are_same_row : AddressRow → AddressRow → Bool
-are_same_row one other = are_same_span one.span other.span && are_same_conns one.conns other.conns
+abbrev pub are_same_address_row : AddressRow → AddressRow → Bool
+are_same_address_row one other = are_same_span one.span other.span && are_same_conns one.conns other.conns
 
 -- Whether two workloads differ in what passes at some address in a direction: they do where their rows of addresses
 -- differ, which are the fewest ranges such that the same passes at each address of one.
 abbrev pub differ_towards : EstateLists → ℕ → ℕ → Direction → Bool
-differ_towards lists a b direction = not (pointwise are_same_row (address_rows (estate_table lists) a direction) (address_rows (estate_table lists) b direction))
+differ_towards lists a b direction = not (pointwise are_same_address_row (address_rows (estate_table lists) a direction) (address_rows (estate_table lists) b direction))
 
 -- whether two workloads differ in any of these
 unfoldable pub differ : EstateLists → ℕ → ℕ → Bool

@@ -8,7 +8,7 @@ use Rattle.np_flatten.specs.Faults.{is_defined, set_of}
 use Rattle.np_flatten.specs.Groups.{first_of_group, group_count, group_of, relevant}
 use Rattle.np_kinds.specs.Prelude.{first_end, number_of_workloads}
 use Rattle.np_flatten.specs.Ports.{ports_of}
-use Rattle.np_flatten.specs.Selecting.{namespace_named, selector_of}
+use Rattle.np_flatten.specs.Selecting.{namespace_named, selector_of_keys}
 use Rattle.np_table.specs.Prelude.{address_rows, estate_table, is_nothing}
 use Rattle.np_table.specs.declared.rows.AddressSpan.TheVariants as span
 
@@ -16,7 +16,7 @@ use Rattle.np_table.specs.declared.rows.AddressSpan.TheVariants as span
 
 -- the selector of a group
 abbrev pub group_selector : EstateLists → ℕ → Selector
-group_selector lists group = selector_of (relevant lists) (first_end lists (first_of_group lists group)).labels
+group_selector lists group = selector_of_keys (relevant lists) (first_end lists (first_of_group lists group)).labels
 
 -- the namespace of a group
 abbrev pub group_namespace : EstateLists → ℕ → List ℕ

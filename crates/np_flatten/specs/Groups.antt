@@ -15,12 +15,12 @@ abbrev pub relevant : EstateLists → List (List ℕ)
 relevant lists = (folding_of lists).relevant
 
 -- whether two pods have the same value of a key, or neither has the key
-abbrev pub have_same_value : PodEnd → PodEnd → List ℕ → Bool
-have_same_value a b key = option_eq bytes_eq (value_of a.labels key) (value_of b.labels key)
+abbrev pub ends_have_same_value : PodEnd → PodEnd → List ℕ → Bool
+ends_have_same_value a b key = option_eq bytes_eq (value_of a.labels key) (value_of b.labels key)
 
 -- whether two pods are of one namespace and have the same values of these keys
 abbrev pub look_alike : List (List ℕ) → PodEnd → PodEnd → Bool
-look_alike keys a b = bytes_eq a.namespace b.namespace && list_all (have_same_value a b) keys
+look_alike keys a b = bytes_eq a.namespace b.namespace && list_all (ends_have_same_value a b) keys
 
 -- whether two workloads, named by their numbers, are of one group
 unfoldable pub are_together : EstateLists → ℕ → ℕ → Bool

@@ -10,8 +10,8 @@ use Rattle.np_table.specs.Prelude.{address_rows, estate_table}
 use Rattle.np_kinds.specs.Prelude.{number_of_workloads, pair_allows}
 
 -- a pair of numbers comes before another: by the first number, and then by the second
-abbrev pub ComesBefore : ℕ → ℕ → ℕ → ℕ → Type 0
-ComesBefore a b c d = (a < c) ⊎ ((a ≡ c) × (b < d))
+abbrev pub IsLexicallyBefore : ℕ → ℕ → ℕ → ℕ → Type 0
+IsLexicallyBefore a b c d = (a < c) ⊎ ((a ≡ c) × (b < d))
 
 -- in all families of the list the same packets pass from a workload to another
 abbrev pub AreFamiliesAlike : EstateLists → ℕ → ℕ → Type 0

@@ -13,8 +13,8 @@ abbrev pub requirement_of_key : List Pair → List ℕ → Requirement
 requirement_of_key labels key = requirement_at key (value_of labels key)
 
 -- the selector of what has the same values of these keys as some labels
-abbrev pub selector_of : List (List ℕ) → List Pair → Selector
-selector_of keys labels = record { requirements = map (requirement_of_key labels) keys }
+abbrev pub selector_of_keys : List (List ℕ) → List Pair → Selector
+selector_of_keys keys labels = record { requirements = map (requirement_of_key labels) keys }
 
 -- the selector of the namespace of a name
 abbrev pub namespace_named : List ℕ → Selector

@@ -183,7 +183,7 @@ fn differ_towards<L: Ledger>(
 
 // Whether two lists of rows are the same.
 fn are_same_rows(rows: &[AddressRow], others: &[AddressRow]) -> bool
-    ensures { result ≡ pointwise spec.are_same_row rows.now others.now }
+    ensures { result ≡ pointwise spec.are_same_address_row rows.now others.now }
 {
     for (place, row) in rows.iter().enumerate() {
         let Some(other) = others.get(place) else {
@@ -198,7 +198,7 @@ fn are_same_rows(rows: &[AddressRow], others: &[AddressRow]) -> bool
 
 // Whether two rows are the same.
 fn is_same_row(row: &AddressRow, other: &AddressRow) -> bool
-    ensures { result ≡ spec.are_same_row row.now other.now }
+    ensures { result ≡ spec.are_same_address_row row.now other.now }
 {
     is_same_span(row.span, other.span) && are_same(&row.conns, &other.conns)
 }

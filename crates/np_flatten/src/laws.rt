@@ -7,7 +7,7 @@ ghost use Rattle.np_model.specs.Prelude.{IsLawful, families_of};
 ghost use Rattle.np_model.specs.declared.lists.EstateLists.{EstateLists};
 ghost use Rattle.np_model.specs.declared.direction.Direction.{Direction};
 ghost use Rattle.np_rules.specs.Prelude.{pod, pod_at};
-ghost use Rattle.np_flatten.specs.Prelude.{AreFamiliesAlike, AreTreatedAlike, ComesBefore, are_together, flat_fault, flattened, group_of, is_defined, set_from, set_of};
+ghost use Rattle.np_flatten.specs.Prelude.{AreFamiliesAlike, AreTreatedAlike, IsLexicallyBefore, are_together, flat_fault, flattened, group_of, is_defined, set_from, set_of};
 ghost use Rattle.np_flatten.specs.declared.fault.FlatFault.TheVariants.{Alike, Split};
 ghost use Rattle.np_table.specs.Prelude.{IsInFamily};
 ghost use Rattle.np_kinds.specs.Prelude.{between_pods, number_of_workloads, with_address};
@@ -41,7 +41,7 @@ pub fn groups_give_the_sets()
 pub fn the_first_split_is_told()
     ensures differ { (lists : EstateLists) (a b : ℕ) → flat_fault lists ≡ Some (Split a b) → AreFamiliesAlike lists a b → ⊥ }
     ensures first { (lists : EstateLists) (a b c d : ℕ) → flat_fault lists ≡ Some (Split a b) →
-        c < number_of_workloads lists → d < number_of_workloads lists → ComesBefore c d a b → AreFamiliesAlike lists c d }
+        c < number_of_workloads lists → d < number_of_workloads lists → IsLexicallyBefore c d a b → AreFamiliesAlike lists c d }
 {}
 
 /// `Alike` comes only where no pair is split. It names two workloads that selectors do not tell apart and some packet does, and
@@ -53,5 +53,5 @@ pub fn the_first_alike_are_told()
         (a < b) × (are_together lists a b ≡ true) }
     ensures differ { (lists : EstateLists) (a b : ℕ) → flat_fault lists ≡ Some (Alike a b) → AreTreatedAlike lists a b → ⊥ }
     ensures first { (lists : EstateLists) (a b c d : ℕ) → flat_fault lists ≡ Some (Alike a b) → d < number_of_workloads lists →
-        c < d → are_together lists c d ≡ true → ComesBefore c d a b → AreTreatedAlike lists c d }
+        c < d → are_together lists c d ≡ true → IsLexicallyBefore c d a b → AreTreatedAlike lists c d }
 {}

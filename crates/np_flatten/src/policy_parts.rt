@@ -27,7 +27,7 @@ pub(crate) fn selector_of(
     keys: &[Text],
     labels: &Labels,
 ) -> Result<Selector, NoMemory>
-    ensures { IfOk result (λ made. made ≡ select.selector_of keys.now labels.now) }
+    ensures { IfOk result (λ made. made ≡ select.selector_of_keys keys.now labels.now) }
 {
     let mut requirements = Seq::new(alloc);
     for key in keys {
@@ -62,7 +62,7 @@ fn namespace_named(alloc: Global, name: &Text) -> Result<Selector, NoMemory>
 /// The pods of a pod's namespace that have the same values of these keys.
 pub(crate) fn peer_like(alloc: Global, keys: &[Text], pod: &Pod) -> Result<NetPeer, NoMemory>
     ensures { IfOk result (λ made.
-        made ≡ Pods (Some (select.namespace_named pod.now.namespace)) (Some (select.selector_of keys.now pod.now.labels))) }
+        made ≡ Pods (Some (select.namespace_named pod.now.namespace)) (Some (select.selector_of_keys keys.now pod.now.labels))) }
 {
     let namespaces = namespace_named(alloc, &pod.namespace)?;
     let pods = selector_of(alloc, keys, &pod.labels)?;

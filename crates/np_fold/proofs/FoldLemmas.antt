@@ -5,7 +5,7 @@ use Rattle.std.proofs.lemmas.List.Elements.{All-get_or}
 use Rattle.std.proofs.lemmas.Option.{slice_get-get_or}
 use Rattle.std.proofs.lemmas.Simd.{map-map}
 use Rattle.std.specs.Option.{option_and_then, option_map, option_map_or}
-use Rattle.np_fold.specs.Prelude.{Cidr, EstateLists, HaveSame, Named, Pod, Traits, cidrs_of_estate, classes_of_pods, compare_traits, first_kinds, first_pod, first_pods, keys_of_estate, kind_at, kind_traits, kinds_alike, kinds_of_workloads, named_first_pods, nobody, number_among, number_of, owner_name, owner_name_at, pods_alike, traits_of, workload_count}
+use Rattle.np_fold.specs.Prelude.{Cidr, EstateLists, HaveSame, Named, Pod, Traits, cidrs_of_estate, classes_of_pods, compare_traits, first_kinds, first_pod, first_pods, keys_of_estate, kind_at, kind_traits, kinds_alike, kinds_of_workloads, named_first_pods, nobody, number_among, owner_name, owner_name_at, pods_alike, traits_of, workload_count, workload_number}
 use Rattle.np_classes.specs.Classes.{class_of, firsts, keys_tie, places}
 use Rattle.np_fold.proofs.AlikeLemmas.{keys_tie-kinds, keys_tie-pods}
 use Rattle.np_classes.proofs.Lists.{All-places, map_agree_on}
@@ -50,11 +50,11 @@ module _ (lists : EstateLists) (keys : List (List ℕ)) (same : (key : List ℕ)
 
 -- ---- numbers of pods
 
-pub numbers-are : (lists : EstateLists) → map (number_among (named_first_pods lists)) (classes_of_pods lists) ≡ map (number_of lists) (places (length lists.pods))
+pub numbers-are : (lists : EstateLists) → map (number_among (named_first_pods lists)) (classes_of_pods lists) ≡ map (workload_number lists) (places (length lists.pods))
 numbers-are lists =
     map-map (number_among (named_first_pods lists)) (class_of (pods_alike lists) (length lists.pods)) (places (length lists.pods))
-    ∙ map_agree_on (λ place. number_among (named_first_pods lists) (class_of (pods_alike lists) (length lists.pods) place)) (number_of lists) (places (length lists.pods))
-    (All-places (λ place. number_among (named_first_pods lists) (class_of (pods_alike lists) (length lists.pods) place) ≡ number_of lists place) (length lists.pods)
+    ∙ map_agree_on (λ place. number_among (named_first_pods lists) (class_of (pods_alike lists) (length lists.pods) place)) (workload_number lists) (places (length lists.pods))
+    (All-places (λ place. number_among (named_first_pods lists) (class_of (pods_alike lists) (length lists.pods) place) ≡ workload_number lists place) (length lists.pods)
     (λ place within. sym (number-rank lists place within)))
 
 -- ---- first pods

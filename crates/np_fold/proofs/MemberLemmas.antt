@@ -16,7 +16,7 @@ use Rattle.std.specs.String.{string_bytes, string_eq}
 use Rattle.std.specs.declared.alloc.Global.{Global}
 use Rattle.indexmap.specs.IndexMap.{insert_entry}
 use Rattle.np_classes.specs.Classes.{numbered, places}
-use Rattle.np_fold.specs.Prelude.{EstateLists, Folding, Named, Workload, named_first_pods, number_named, number_of, workload, workload_of, workload_of_entry, workload_of_pair, workloads_of}
+use Rattle.np_fold.specs.Prelude.{EstateLists, Folding, Named, Workload, named_first_pods, number_named, workload, workload_number, workload_of, workload_of_entry, workload_of_pair, workloads_of}
 use Rattle.np_fold.proofs.NumberLemmas.{members-by_number}
 
 -- ---- the workload of a name
@@ -134,11 +134,11 @@ zip-places f g h (x ∷ xs) start each =
     rw (each 0 start x refl (omega arith), zip-places f g h xs (start + 1) (λ i place y at is. each (suc i) place y at (omega (arith, is)))) refl
 
 pub workloads-are : (lists : EstateLists) →
-    map workload_of_pair (zip (named_first_pods lists) (map (numbered (map (number_of lists) (places (length lists.pods)))) (places (length (named_first_pods lists))))) ≡ workloads_of lists
+    map workload_of_pair (zip (named_first_pods lists) (map (numbered (map (workload_number lists) (places (length lists.pods)))) (places (length (named_first_pods lists))))) ≡ workloads_of lists
 unfolding workloads_of
 workloads-are lists =
-    zip-places (numbered (map (number_of lists) (places (length lists.pods)))) (workload lists) workload_of_pair (named_first_pods lists) 0
-    (λ number place one at is. ap (workload_of one.name) (sym (members-by_number lists number one at ∙ ap (numbered (map (number_of lists) (places (length lists.pods)))) (number_is number place is))))
+    zip-places (numbered (map (workload_number lists) (places (length lists.pods)))) (workload lists) workload_of_pair (named_first_pods lists) 0
+    (λ number place one at is. ap (workload_of one.name) (sym (members-by_number lists number one at ∙ ap (numbered (map (workload_number lists) (places (length lists.pods)))) (number_is number place is))))
   where
     number_is : (number place : ℕ) → place ≡ 0 + number → number ≡ place
     number_is number place is = omega (arith, is)

@@ -17,7 +17,7 @@ use Rattle.np_base.proofs.Bools.{eq-swap}
 use Rattle.np_classes.specs.Classes.{class_of, members, numbered, places}
 use Rattle.np_classes.proofs.Lists.{All-places, any_filter, any_place, filter_agree_on, place_that_passes, position_agree_on}
 use Rattle.np_classes.proofs.Relations.{alike_in_class, class_of_first, class_within, firsts_within, same_class}
-use Rattle.np_fold.specs.Prelude.{EstateLists, Named, Pod, first_of, first_pods, has_member, named_first_pods, number_of, owner_name, owner_name_at, owner_names, pods_alike, pods_like, workload, workloads_of}
+use Rattle.np_fold.specs.Prelude.{EstateLists, Named, Pod, first_of, first_pods, has_pod, named_first_pods, owner_name, owner_name_at, owner_names, pods_alike, pods_like, workload, workload_number, workloads_of}
 use Rattle.np_fold.proofs.AlikeLemmas.{alike-is}
 use Rattle.np_names.specs.Names.{EndsInBracket, named}
 use Rattle.np_names.proofs.NumberLemmas.{names-in-order, number-of-one, one-of-place}
@@ -82,7 +82,7 @@ module _ (lists : EstateLists) where
 
   -- a pod is in a workload exactly where the first pod of its class is its first pod
   pub has_member-is : (place : ℕ) (one : Named) → place < count → one.place < length (first_pods lists)
-      → has_member place (workload lists one) ≡ (one.place == class place)
+      → has_pod place (workload lists one) ≡ (one.place == class place)
   has_member-is place one within known =
       member-is (pods_alike lists) count (first_of lists one) place within
       ∙ both_ways (pods_alike lists (first_of lists one) place) (one.place == class place)
@@ -91,12 +91,12 @@ module _ (lists : EstateLists) where
       (λ same. alike_in_class (pods_alike lists) count (alike-is lists) (first_of lists one) place (first-within one known) within
       (class-first one known ∙ eqb-true one.place (class place) same))
 
-  pub number-rank : (place : ℕ) → place < count → number_of lists place ≡ position_or_len (λ one. one.place == class place) (named_first_pods lists)
-  unfolding number_of workloads_of
+  pub number-rank : (place : ℕ) → place < count → workload_number lists place ≡ position_or_len (λ one. one.place == class place) (named_first_pods lists)
+  unfolding workload_number workloads_of
   number-rank place within =
-      position_or_len-map (has_member place) (workload lists) (named_first_pods lists)
-      ∙ position_agree_on (λ one. has_member place (workload lists one)) (λ one. one.place == class place) (named_first_pods lists)
-      (All-weaker (λ one. one.place < length (first_pods lists)) (λ one. has_member place (workload lists one) ≡ (one.place == class place))
+      position_or_len-map (has_pod place) (workload lists) (named_first_pods lists)
+      ∙ position_agree_on (λ one. has_pod place (workload lists one)) (λ one. one.place == class place) (named_first_pods lists)
+      (All-weaker (λ one. one.place < length (first_pods lists)) (λ one. has_pod place (workload lists one) ≡ (one.place == class place))
       (λ one known. has_member-is place one within known) (named_first_pods lists) named-within)
 
   -- the workload of a pod is there, and it is that of its class
@@ -104,12 +104,12 @@ module _ (lists : EstateLists) where
   class-within place within =
       subst (λ (n : ℕ). class place < n) (sym names-count) (class_within (pods_alike lists) count (alike-is lists) place within)
 
-  pub number-within : (place : ℕ) → place < count → number_of lists place < length (named_first_pods lists)
+  pub number-within : (place : ℕ) → place < count → workload_number lists place < length (named_first_pods lists)
   number-within place within =
       let there = (one-of-place (owner_names lists) (class place) (class-within place within)).0 in
       omega (arith, there, number-rank place within, length-all_by_name (owner_names lists))
 
-  pub named-number : (place : ℕ) → place < count → slice_get (named_first_pods lists) (number_of lists place) ≡ Some (named (owner_names lists) (class place))
+  pub named-number : (place : ℕ) → place < count → slice_get (named_first_pods lists) (workload_number lists place) ≡ Some (named (owner_names lists) (class place))
   named-number place within =
       ap (slice_get (named_first_pods lists)) (number-rank place within)
       ∙ (one-of-place (owner_names lists) (class place) (class-within place within)).1
@@ -126,15 +126,15 @@ module _ (lists : EstateLists) where
 
   -- a pod is of its class exactly where it has its number
   pub number-is : (number : ℕ) (one : Named) (place : ℕ) → slice_get (named_first_pods lists) number ≡ Some one → place < count
-      → (one.place == class place) ≡ (number == number_of lists place)
+      → (one.place == class place) ≡ (number == workload_number lists place)
   number-is number one place at within =
-      both_ways (one.place == class place) (number == number_of lists place)
-      (λ same. eq-eqb number (number_of lists place)
+      both_ways (one.place == class place) (number == workload_number lists place)
+      (λ same. eq-eqb number (workload_number lists place)
       (sym (at-number number one at).2
       ∙ ap (λ (n : ℕ). position_or_len (λ other. other.place == n) (named_first_pods lists)) (eqb-true one.place (class place) same)
       ∙ sym (number-rank place within)))
       (λ same.
-      let here : Some one ≡ Some (named (owner_names lists) (class place)) = sym at ∙ ap (slice_get (named_first_pods lists)) (eqb-true number (number_of lists place) same)
+      let here : Some one ≡ Some (named (owner_names lists) (class place)) = sym at ∙ ap (slice_get (named_first_pods lists)) (eqb-true number (workload_number lists place) same)
       ∙ named-number place within in
       let one_is : one ≡ named (owner_names lists) (class place) = cc in
       eq-eqb one.place (class place) (ap (λ (other : Named). other.place) one_is))
@@ -143,25 +143,25 @@ module _ (lists : EstateLists) where
 
   -- the pods of a workload are those of its number
   pub members-by_number : (number : ℕ) (one : Named) → slice_get (named_first_pods lists) number ≡ Some one →
-      pods_like lists (first_of lists one) ≡ numbered (map (number_of lists) (places count)) number
+      pods_like lists (first_of lists one) ≡ numbered (map (workload_number lists) (places count)) number
   unfolding members
   members-by_number number one at =
-      filter_agree_on (pods_alike lists (first_of lists one)) (λ place. slice_index (map (number_of lists) (places count)) place == number) (places count)
-      (All-places (λ place. pods_alike lists (first_of lists one) place ≡ (slice_index (map (number_of lists) (places count)) place == number)) count each)
-      ∙ ap (λ (n : ℕ). filter (λ place. slice_index (map (number_of lists) (places count)) place == number) (places n)) (sym (length-map-range_with_len (number_of lists) 0 count))
+      filter_agree_on (pods_alike lists (first_of lists one)) (λ place. slice_index (map (workload_number lists) (places count)) place == number) (places count)
+      (All-places (λ place. pods_alike lists (first_of lists one) place ≡ (slice_index (map (workload_number lists) (places count)) place == number)) count each)
+      ∙ ap (λ (n : ℕ). filter (λ place. slice_index (map (workload_number lists) (places count)) place == number) (places n)) (sym (length-map-range_with_len (workload_number lists) 0 count))
     where
-      each : (place : ℕ) → place < count → pods_alike lists (first_of lists one) place ≡ (slice_index (map (number_of lists) (places count)) place == number)
+      each : (place : ℕ) → place < count → pods_alike lists (first_of lists one) place ≡ (slice_index (map (workload_number lists) (places count)) place == number)
       each place within =
           sym (member-is (pods_alike lists) count (first_of lists one) place within)
           ∙ has_member-is place one within (place-within number one at)
           ∙ number-is number one place at within
-          ∙ eq-swap number (number_of lists place)
-          ∙ ap (λ (n : ℕ). n == number) (sym (get_or-map-range_with_len (number_of lists) 0 count place place 0 within (omega arith)))
+          ∙ eq-swap number (workload_number lists place)
+          ∙ ap (λ (n : ℕ). n == number) (sym (get_or-map-range_with_len (workload_number lists) 0 count place place 0 within (omega arith)))
 
-  pub numbers-within : All (λ number. number < length (named_first_pods lists)) (map (number_of lists) (places count))
+  pub numbers-within : All (λ number. number < length (named_first_pods lists)) (map (workload_number lists) (places count))
   numbers-within =
-      All-map (λ number. number < length (named_first_pods lists)) (number_of lists) (places count)
-      (All-places (λ place. number_of lists place < length (named_first_pods lists)) count number-within)
+      All-map (λ number. number < length (named_first_pods lists)) (workload_number lists) (places count)
+      (All-places (λ place. workload_number lists place < length (named_first_pods lists)) count number-within)
 
   pub classes-within : All (λ number. number < length (first_pods lists)) (map class (places count))
   classes-within =

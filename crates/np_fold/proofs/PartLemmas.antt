@@ -10,7 +10,7 @@ use Rattle.std.specs.List.Sorted.{IsStrictlySortedBy}
 use Rattle.std.specs.Ordering.{nat_cmp}
 use Rattle.std.specs.declared.alloc.Global.{Global}
 use Rattle.np_classes.specs.Classes.{firsts, is_first, numbered, places}
-use Rattle.np_fold.specs.Prelude.{EstateLists, Folding, Named, Workload, classes_of_pods, first_kinds, folding_of, keys_of_estate, kinds_alike, kinds_of_workloads, named_first_pods, number_among, number_of, with_keys, workload, workload_count, workload_of_entry, workload_of_pair, workloads_of}
+use Rattle.np_fold.specs.Prelude.{EstateLists, Folding, Named, Workload, classes_of_pods, first_kinds, folding_of, keys_of_estate, kinds_alike, kinds_of_workloads, named_first_pods, number_among, with_keys, workload, workload_count, workload_number, workload_of_entry, workload_of_pair, workloads_of}
 use Rattle.np_fold.proofs.FoldLemmas.{numbers-are}
 use Rattle.np_fold.proofs.MemberLemmas.{workloads-are}
 use Rattle.np_fold.proofs.NumberLemmas.{classes-within, count-is, named-within, names-strict, numbers-within}
@@ -50,11 +50,11 @@ module _ (lists : EstateLists) (few : workload_count lists ≤ 2000) (named : Li
   -- ---- numbers of pods
 
   module _ (classes numbers : List ℕ) (are : classes ≡ classes_of_pods lists) (made : numbers ≡ map (number_among named) classes) where
-    pub numbers-made : numbers ≡ map (number_of lists) (places (length lists.pods))
+    pub numbers-made : numbers ≡ map (workload_number lists) (places (length lists.pods))
     numbers-made = rw (made, is, are) (numbers-are lists)
 
     pub numbers-few : length lists.pods < 2 ^ 32 → length numbers < 2 ^ 32
-    numbers-few fits = omega (arith, fits, ap length numbers-made, length-map-range_with_len (number_of lists) 0 (length lists.pods))
+    numbers-few fits = omega (arith, fits, ap length numbers-made, length-map-range_with_len (workload_number lists) 0 (length lists.pods))
 
     pub numbers-in : All (λ number. number < length named) numbers
     numbers-in = rw (numbers-made, is) (numbers-within lists)
@@ -85,7 +85,7 @@ kinds-few lists made few is = omega (arith, few, ap length is, length-firsts (ki
 -- ---- all parts
 
 pub folding-is : (lists : EstateLists) (workloads : List Workload) (numbers kinds first : List ℕ) (relevant : List (List ℕ))
-    → workloads ≡ workloads_of lists → numbers ≡ map (number_of lists) (places (length lists.pods)) → kinds ≡ kinds_of_workloads lists → first ≡ first_kinds lists → relevant ≡ with_keys []
+    → workloads ≡ workloads_of lists → numbers ≡ map (workload_number lists) (places (length lists.pods)) → kinds ≡ kinds_of_workloads lists → first ≡ first_kinds lists → relevant ≡ with_keys []
     (keys_of_estate lists)
     → (let folding : Folding = record { workloads = workloads; numbers = numbers; kinds = kinds; kind_count = length first; first_of_kinds = first; relevant = relevant } in folding) ≡ folding_of lists
 unfolding folding_of

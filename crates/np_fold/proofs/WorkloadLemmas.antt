@@ -18,7 +18,7 @@ use Rattle.np_base.proofs.Lists.{slice_get-some}
 use Rattle.np_classes.specs.Classes.{class_of, firsts, is_first, members, places}
 use Rattle.np_classes.proofs.Lists.{All-places, any_place}
 use Rattle.np_classes.proofs.Relations.{alike_in_class, same_class}
-use Rattle.np_fold.specs.Prelude.{Alike, EstateLists, IsSameKind, Named, Pod, Workload, are_alike, are_same_kind, first_of, first_pod, first_pods, folding_of, has_member, kinds_alike, members_of, named_first_pods, number_of, owner_names, pods_alike, pods_like, workload, workload_count, workloads_of}
+use Rattle.np_fold.specs.Prelude.{Alike, EstateLists, IsSameKind, Named, Pod, Workload, are_alike, are_same_kind, first_of, first_pod, first_pods, folding_of, has_pod, kinds_alike, members_of, named_first_pods, owner_names, pods_alike, pods_like, workload, workload_count, workload_number, workloads_of}
 use Rattle.np_fold.proofs.AlikeLemmas.{alike_decide, alike-is, kinds_decide, kinds-are}
 use Rattle.np_fold.proofs.NumberLemmas.{count-is, first-within, has_member-is, named-number, names-strict, number-is, number-rank, number-within, place-within}
 use Rattle.np_names.specs.Names.{named}
@@ -71,7 +71,7 @@ module _ (lists : EstateLists) where
   pub workloads-count : length (workloads_of lists) ≡ workload_count lists
   workloads-count = workloads-named ∙ count-is lists
 
-  pub number-in_workloads : (place : ℕ) → place < count → number_of lists place < length (workloads_of lists)
+  pub number-in_workloads : (place : ℕ) → place < count → workload_number lists place < length (workloads_of lists)
   number-in_workloads place within = omega (arith, number-within lists place within, workloads-named)
 
   -- the workload at a number is that of a named one
@@ -86,10 +86,10 @@ module _ (lists : EstateLists) where
       by None is mapped = absurd (none-some one mapped)
       by (Some thing) is mapped = (thing, is, sym (same_Some (workload lists thing) one mapped))
 
-  pub member-by_number : (place number : ℕ) (one : Workload) → place < count → slice_get (workloads_of lists) number ≡ Some one → has_member place one ≡ (number == number_of lists place)
+  pub member-by_number : (place number : ℕ) (one : Workload) → place < count → slice_get (workloads_of lists) number ≡ Some one → has_pod place one ≡ (number == workload_number lists place)
   member-by_number place number one within at =
       let (thing, found, is) = workload-at number one at in
-      ap (has_member place) is ∙ has_member-is lists place thing within (place-within lists number thing found) ∙ number-is lists number thing place found within
+      ap (has_pod place) is ∙ has_member-is lists place thing within (place-within lists number thing found) ∙ number-is lists number thing place found within
 
   -- ---- pods of one workload
 
@@ -103,21 +103,21 @@ module _ (lists : EstateLists) where
     asked : pods_alike lists place place' ≡ are_alike lists a b
     asked = rw (at, at') refl
 
-    alike-of_one : number_of lists place ≡ number_of lists place' → Alike lists a b
+    alike-of_one : workload_number lists place ≡ workload_number lists place' → Alike lists a b
     alike-of_one same =
         let named_same : Some (named (owner_names lists) (class place)) ≡ Some (named (owner_names lists) (class place')) = sym (named-number lists place in_a) ∙ ap
         (slice_get (named_first_pods lists)) same ∙ named-number lists place' in_b in
         let classes : class place ≡ class place' = ap (λ (found : Option Named). option_map_or (λ one. one.place) found 0) named_same in
         (alike_decide lists a b).0 (sym asked ∙ alike_in_class (pods_alike lists) count (alike-is lists) place place' in_a in_b classes)
 
-    one-of_alike : Alike lists a b → number_of lists place ≡ number_of lists place'
+    one-of_alike : Alike lists a b → workload_number lists place ≡ workload_number lists place'
     one-of_alike alike =
         number-rank lists place in_a
         ∙ ap (λ (n : ℕ). position_or_len (λ one. one.place == n) (named_first_pods lists))
         (same_class (pods_alike lists) count (alike-is lists) place place' in_a in_b (asked ∙ (alike_decide lists a b).1 alike))
         ∙ sym (number-rank lists place' in_b)
 
-    pub one_workload : (number_of lists place ≡ number_of lists place') ↔ Alike lists a b
+    pub one_workload : (workload_number lists place ≡ workload_number lists place') ↔ Alike lists a b
     one_workload = (alike-of_one, one-of_alike)
 
   -- ---- the pods of a workload

@@ -7,6 +7,6 @@ pub use Rattle.np_fold.specs.Keys.{keys_of_admin_peer, keys_of_admin_policy, key
 pub use Rattle.np_fold.specs.Order.{compare_labels, compare_owners, compare_ports, compare_traits, traits_total}
 pub use Rattle.np_fold.specs.Traits.{blocks_of, label_of, traits_of, with_owner}
 pub use Rattle.np_fold.specs.Types.{Address, AdminPeer, AdminPolicy, AdminRule, BasePolicy, Cidr, EstateLists, Label, Named, NamedPort, NetPeer, NetPolicy, NetRule, Owner, Pair, Pod, Selector, ServiceItem, Subject, Traits}
-pub use Rattle.np_fold.specs.Workloads.{Folding, Workload, first_of, first_pod, first_pods, has_member, kinds_alike, members_of, name_of, named_first_pods, number_named, owner_name, owner_name_at, owner_names, pods_alike, pods_like, workload, workload_count, workload_of_entry}
-unfoldable pub use Rattle.np_fold.specs.Workloads.{folding_of, number_of, workloads_of}
+pub use Rattle.np_fold.specs.Workloads.{Folding, Workload, first_of, first_pod, first_pods, has_pod, kinds_alike, members_of, name_of_workload, named_first_pods, number_named, owner_name, owner_name_at, owner_names, pods_alike, pods_like, workload, workload_count, workload_of_entry}
+unfoldable pub use Rattle.np_fold.specs.Workloads.{folding_of, workload_number, workloads_of}
 pub use Rattle.np_fold.specs.steps.Folded.{HaveSame, block_at, classes_of_pods, first_kinds, kind_at, kind_traits, kinds_of_workloads, nobody, number_among, start_of, workload_of, workload_of_pair}

@@ -79,12 +79,12 @@ workloads_of lists = map (workload lists) (named_first_pods lists)
 
 -- ---- numbers
 
-abbrev pub has_member : ℕ → Workload → Bool
-has_member place one = list_any (λ member. member == place) one.members
+abbrev pub has_pod : ℕ → Workload → Bool
+has_pod place one = list_any (λ member. member == place) one.members
 
 -- the number of the workload of the pod at a place
-unfoldable pub number_of : EstateLists → ℕ → ℕ
-number_of lists place = position_or_len (has_member place) (workloads_of lists)
+unfoldable pub workload_number : EstateLists → ℕ → ℕ
+workload_number lists place = position_or_len (has_pod place) (workloads_of lists)
 
 -- the first pod of the workload of a number
 abbrev pub first_pod : EstateLists → ℕ → Option Pod
@@ -103,8 +103,8 @@ workload_count lists = length (first_pods lists)
 abbrev pub members_of : Folding → ℕ → List ℕ
 members_of folding number = option_map_or (λ one. one.members) (slice_get folding.workloads number) []
 
-abbrev pub name_of : Folding → ℕ → List ℕ
-name_of folding number = option_map_or (λ one. one.name) (slice_get folding.workloads number) []
+abbrev pub name_of_workload : Folding → ℕ → List ℕ
+name_of_workload folding number = option_map_or (λ one. one.name) (slice_get folding.workloads number) []
 
 -- the number of the workload of a name
 abbrev pub number_named : Folding → List ℕ → Option ℕ
@@ -116,7 +116,7 @@ number_named folding name = position (λ one. bytes_eq one.name name) folding.wo
 unfoldable pub folding_of : EstateLists → Folding
 folding_of lists = record {
   workloads = workloads_of lists;
-  numbers = map (number_of lists) (places (length lists.pods));
+  numbers = map (workload_number lists) (places (length lists.pods));
   kinds = map (class_of (kinds_alike lists) (workload_count lists)) (places (workload_count lists));
   kind_count = length (firsts (kinds_alike lists) (workload_count lists));
   first_of_kinds = firsts (kinds_alike lists) (workload_count lists);

@@ -7,7 +7,7 @@ ghost use Rattle.std.specs.declared.cmp.Ordering.TheVariants.{Equal};
 ghost use Rattle.np_model.specs.declared.lists.EstateLists.{EstateLists};
 ghost use Rattle.np_model.specs.declared.pod.Pod.{Pod};
 ghost use Rattle.np_model.specs.Prelude.{is_well_pod};
-ghost use Rattle.np_fold.specs.Prelude.{Alike, IsNamed, IsSameKind, Workload, are_alike, are_same_kind, cidrs_of_estate, compare_traits, first_pod, folding_of, has_member, keys_of_estate, kinds_alike, members_of, number_of, owner_name, traits_of, with_owner, workload_count, workloads_of};
+ghost use Rattle.np_fold.specs.Prelude.{Alike, IsNamed, IsSameKind, Workload, are_alike, are_same_kind, cidrs_of_estate, compare_traits, first_pod, folding_of, has_pod, keys_of_estate, kinds_alike, members_of, owner_name, traits_of, with_owner, workload_count, workload_number, workloads_of};
 ghost use Rattle.np_fold.specs.declared.traits.Traits.{Traits};
 ghost use Rattle.np_classes.specs.Classes.{class_of};
 ghost use Rattle.np_labels.specs.Prelude.{is_listed};
@@ -56,16 +56,16 @@ pub fn owner_names_tell_owners_apart()
 /// Each pod is in the workload of its number, and in no other.
 pub fn each_pod_has_one_workload()
     ensures number { (lists : EstateLists) (place : ℕ) → place < length lists.pods →
-        number_of lists place < length (workloads_of lists) }
+        workload_number lists place < length (workloads_of lists) }
     ensures members { (lists : EstateLists) (place number : ℕ) (one : Workload) → place < length lists.pods →
-        slice_get (workloads_of lists) number ≡ Some one → has_member place one ≡ (number == number_of lists place) }
+        slice_get (workloads_of lists) number ≡ Some one → has_pod place one ≡ (number == workload_number lists place) }
 {}
 
 /// Pods are in one workload exactly where they are alike.
 pub fn one_workload_has_alike_pods()
     ensures { (lists : EstateLists) (place place' : ℕ) (a b : Pod) →
         slice_get lists.pods place ≡ Some a → slice_get lists.pods place' ≡ Some b →
-        (number_of lists place ≡ number_of lists place') ↔ Alike lists a b }
+        (workload_number lists place ≡ workload_number lists place') ↔ Alike lists a b }
 {}
 
 /// There are as many workloads as first pods. Each has a pod, the places of its pods are of the estate and ascend, and

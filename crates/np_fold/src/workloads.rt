@@ -194,7 +194,7 @@ impl Workloads {
     /// has several workloads.
     pub fn name(&self, workload: u32) -> &str
         requires { workload < length self.now.workloads }
-        ensures { result.now ≡ spec.name_of self.now workload }
+        ensures { result.now ≡ spec.name_of_workload self.now workload }
     {
         match self.by_name.get_index(workload as usize) {
             Some((name, _)) => name.as_str(),

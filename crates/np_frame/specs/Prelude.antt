@@ -6,4 +6,4 @@ unfoldable pub use Rattle.np_frame.specs.NoteTexts.{note}
 pub use Rattle.np_frame.specs.OneLine.{IsOneLine, in_one_line, is_shown}
 unfoldable pub use Rattle.np_frame.specs.OneLine.{one_line}
 pub use Rattle.np_frame.specs.Sources.{AreTold, Began, BeganFront, FailedAt, HandedOut, InRoom, IsUntouched, NamesInput, NextUnread, OverLimit, ReadOnce, SourceTrace, Unread, is_too_large, sourced, total_size}
-pub use Rattle.np_frame.specs.Words.{inputs_of, names_asked, names_of, object_texts, objects_of}
+pub use Rattle.np_frame.specs.Words.{input_names, inputs_of, names_asked, object_texts, objects_of}

@@ -9,19 +9,19 @@ use Rattle.np_args.specs.declared.job.Job.{Job}
 use Rattle.np_args.specs.declared.job.Job.TheVariants.{Check, Evaluate, Explain, Exposure, Flatten, List as ListJob, Sample, Unused}
 
 -- the names that a job reads, in order: of `check` the statement file stands first
-abbrev pub names_of : Job → List (List ℕ)
-names_of (ListJob format report controller focus side files) = files
-names_of (Explain from to files) = files
-names_of (Exposure workload format files) = files
-names_of (Evaluate from to proto port files) = files
-names_of (Unused files) = files
-names_of (Check statement files) = statement ∷ files
-names_of (Flatten files) = files
-names_of (Sample n) = []
+abbrev pub input_names : Job → List (List ℕ)
+input_names (ListJob format report controller focus side files) = files
+input_names (Explain from to files) = files
+input_names (Exposure workload format files) = files
+input_names (Evaluate from to proto port files) = files
+input_names (Unused files) = files
+input_names (Check statement files) = statement ∷ files
+input_names (Flatten files) = files
+input_names (Sample n) = []
 
 -- the names that the words ask for
 abbrev pub names_asked : Option Job → List (List ℕ)
-names_asked asked = option_map_or names_of asked []
+names_asked asked = option_map_or input_names asked []
 
 -- ---- by the bytes of all of them
 

@@ -14,7 +14,7 @@ use std::alloc::Global;
 
 /// The names that a job reads, in order: its files, and before them the statement file of `check`. `sample` reads none.
 pub fn names_of(alloc: Global, job: &Job) -> Result<Seq<Text>, NoMemory>
-    ensures { IfOk result (λ names. names ≡ spec.names_of job.now) }
+    ensures { IfOk result (λ names. names ≡ spec.input_names job.now) }
 {
     let mut names = Seq::new(alloc);
     match job {

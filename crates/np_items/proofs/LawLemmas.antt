@@ -7,7 +7,7 @@ use Rattle.std.specs.Str.{bytes_eq}
 use Rattle.serde_json.specs.Data.{Data}
 use Rattle.np_json.specs.Prelude.{text_of, ◌>>=◌}
 use Rattle.np_json.specs.declared.field.Field.TheVariants.{Given}
-use Rattle.np_items.specs.Prelude.{Reading, each_item, input_values, is_list_kind, item_of, items_by, items_in, values_from}
+use Rattle.np_items.specs.Prelude.{ItemsReading, input_values, is_list_kind, item_of, items_by, items_from, items_in, values_from}
 use Rattle.np_items.specs.declared.item.Item.{Item}
 use Rattle.np_items.specs.declared.fault.ItemsFault.{ItemsFault}
 
@@ -25,7 +25,7 @@ items_in-object input value version kind has_version has_kind other =
 -- ---- the first fault
 
 -- where two steps give a value, the first gives one
-first_gives : {A B : Type 0} (reading : Reading A) (next : A → Reading B) (y : B) → (reading >>= next) ≡ Ok y → (x : A) × (reading ≡ Ok x) × (next x ≡ Ok y)
+first_gives : {A B : Type 0} (reading : ItemsReading A) (next : A → ItemsReading B) (y : B) → (reading >>= next) ≡ Ok y → (x : A) × (reading ≡ Ok x) × (next x ≡ Ok y)
 first_gives (Ok x) next y is = (x, refl, is)
 first_gives (Err fault) next y is = absurd (false≢true (ap is_ok is))
 
@@ -41,14 +41,14 @@ values_from-refused input (first ∷ before) others text values fault read is =
     let later : values_from (input + 1) (before ++ text ∷ others) ≡ Err fault = values_from-refused (input + 1) before others text rest.0 fault rest.1 (rw same at is) in
     rw (step.1, later) refl
 
-pub each_item-refused : (number : ℕ) (before others : List Data) (value : Data) (items : List Item) (fault : ItemsFault) → each_item number before ≡ Ok items →
-    item_of (number + length before) value ≡ Err fault → each_item number (before ++ value ∷ others) ≡ Err fault
+pub each_item-refused : (number : ℕ) (before others : List Data) (value : Data) (items : List Item) (fault : ItemsFault) → items_from number before ≡ Ok items →
+    item_of (number + length before) value ≡ Err fault → items_from number (before ++ value ∷ others) ≡ Err fault
 each_item-refused number [] others value items fault read is =
     let here : item_of number value ≡ Err fault = rw add-zero at is in
     rw here refl
 each_item-refused number (first ∷ before) others value items fault read is =
     let step = first_gives (item_of number first) _ items read in
-    let rest = first_gives (each_item (number + 1) before) _ items step.2 in
+    let rest = first_gives (items_from (number + 1) before) _ items step.2 in
     let same : number + length (first ∷ before) ≡ (number + 1) + length before = omega arith in
-    let later : each_item (number + 1) (before ++ value ∷ others) ≡ Err fault = each_item-refused (number + 1) before others value rest.0 fault rest.1 (rw same at is) in
+    let later : items_from (number + 1) (before ++ value ∷ others) ≡ Err fault = each_item-refused (number + 1) before others value rest.0 fault rest.1 (rw same at is) in
     rw (step.1, later) refl

@@ -4,16 +4,16 @@ use Rattle.std.specs.Prelude.{◌≡◌, Result, Ok, Err, ⊤}
 use Rattle.np_items.specs.declared.fault.ItemsFault.{ItemsFault}
 use Rattle.np_items.specs.declared.fault.ItemsFault.TheVariants.{NoMemory}
 
-abbrev pub Reading : Type 0 → Type 0
-Reading A = Result A ItemsFault
+abbrev pub ItemsReading : Type 0 → Type 0
+ItemsReading A = Result A ItemsFault
 
 -- what the code gives of a reading: its value as it is seen, or its very fault; want of memory may always come
-abbrev pub GivesAs : {A B : Type 0} → (A → B) → Result A ItemsFault → Reading B → Type 0
+abbrev pub GivesAs : {A B : Type 0} → (A → B) → Result A ItemsFault → ItemsReading B → Type 0
 GivesAs seen (Ok x) reading = reading ≡ Ok (seen x)
 GivesAs seen (Err NoMemory) reading = ⊤
 GivesAs seen (Err fault) reading = reading ≡ Err fault
 
-abbrev pub Gives : {A : Type 0} → Result A ItemsFault → Reading A → Type 0
+abbrev pub Gives : {A : Type 0} → Result A ItemsFault → ItemsReading A → Type 0
 Gives (Ok x) reading = reading ≡ Ok x
 Gives (Err NoMemory) reading = ⊤
 Gives (Err fault) reading = reading ≡ Err fault

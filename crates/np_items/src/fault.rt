@@ -1,7 +1,7 @@
 //! Why the items of inputs are not read.
 
 use np_base::NoMemory;
-use np_json::{Fault, ReadFault};
+use np_json::{ObjectFault, ReadFault};
 
 /// Why the items of inputs are not read.
 #[derive(Debug, Drop)]
@@ -16,7 +16,7 @@ pub enum ItemsFault {
     /// The item of this number, from 1 over all inputs, is itself a list: its kind ends in `List`.
     NestedList { item: u64 },
     /// An item has this fault first.
-    Bad(Fault),
+    Bad(ObjectFault),
     /// The system refused memory. No definition of what inputs are read as gives this.
     NoMemory,
 }

@@ -16,7 +16,7 @@ use std::alloc::Global;
 
 /// Each value as an item, numbered from 1. The first fault stands.
 pub(crate) fn each_item(alloc: Global, values: &[Value]) -> Result<Seq<Item>, ItemsFault>
-    ensures reads { Gives result (spec.each_item 1 (map view values.now)) }
+    ensures reads { Gives result (spec.items_from 1 (map view values.now)) }
     ensures count { IfOk result (λ items. length items ≡ length values.now) }
     ensures well { IfOk result (All IsWellItem) }
 {

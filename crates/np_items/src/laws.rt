@@ -3,7 +3,7 @@ ghost use Rattle.std.specs.Prelude.{◌≡◌, ℕ, ◌+◌, List, [], ◌∷◌
 ghost use Rattle.serde_json.specs.Data.{Data};
 ghost use Rattle.np_json.specs.Prelude.{text_of};
 ghost use Rattle.np_json.specs.declared.field.Field.TheVariants.{Given};
-ghost use Rattle.np_items.specs.Prelude.{all_values, each_item, input_values, is_list_kind, item_of, items_in};
+ghost use Rattle.np_items.specs.Prelude.{all_values, input_values, is_list_kind, item_of, items_from, items_in};
 ghost use Rattle.np_items.specs.declared.item.Item.{Item};
 ghost use Rattle.np_items.specs.declared.fault.ItemsFault.{ItemsFault};
 
@@ -24,6 +24,6 @@ pub fn first_refused_input_stands()
 /// Items that are not all read are refused as the first that is not, under its number.
 pub fn first_refused_item_stands()
     ensures { (before others : List Data) (value : Data) (items : List Item) (fault : ItemsFault) →
-        each_item 1 before ≡ Ok items → item_of (1 + length before) value ≡ Err fault →
-        each_item 1 (before ++ value ∷ others) ≡ Err fault }
+        items_from 1 before ≡ Ok items → item_of (1 + length before) value ≡ Err fault →
+        items_from 1 (before ++ value ∷ others) ≡ Err fault }
 {}

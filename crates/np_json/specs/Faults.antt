@@ -1,7 +1,7 @@
 -- The texts of faults.
 use Rattle.std.specs.Prelude.{ℕ, List, ◌++◌, codes, decimal}
 use Rattle.np_json.specs.Types.{BadAction, BadAddress, BadCidr, BadExcept, BadField, BadName, BadPort, BadPriority, BadProtocol, BadSelector, BaselineName, DomainPeer, EmptyPeers, FaultKind, Flaw, ForeignPolicy, NodePeer, PeerShape, ReadFault, ShapeFault}
-use Rattle.np_json.specs.declared.fault.Fault.{Fault}
+use Rattle.np_json.specs.declared.fault.ObjectFault.{ObjectFault}
 use Rattle.np_json.specs.declared.fault.ReadFault.TheVariants.{Bad, NoMemory}
 use Rattle.np_json.specs.declared.flaw.ShapeFault.TheVariants as part
 use Rattle.np_json.specs.Paths.{path_text}
@@ -26,11 +26,11 @@ kind_text BaselineName = codes "BaselineName"
 kind_text ForeignPolicy = codes "ForeignPolicy"
 
 -- `item 3: spec.podSelector: BadSelector`
-abbrev pub fault_text : Fault → List ℕ
-fault_text fault = codes "item " ++ decimal fault.item ++ codes ": " ++ path_text fault.path ++ codes ": " ++ kind_text fault.kind
+abbrev pub item_fault_text : ObjectFault → List ℕ
+item_fault_text fault = codes "item " ++ decimal fault.item ++ codes ": " ++ path_text fault.path ++ codes ": " ++ kind_text fault.kind
 
 abbrev pub read_fault_text : ReadFault → List ℕ
-read_fault_text (Bad fault) = fault_text fault
+read_fault_text (Bad fault) = item_fault_text fault
 read_fault_text NoMemory = codes "out of memory"
 
 -- `podSelector: BadSelector`

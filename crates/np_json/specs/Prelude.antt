@@ -1,5 +1,5 @@
 -- The definitions and types of this crate that its proofs and the crates above speak of, one import line a file.
-pub use Rattle.np_json.specs.Faults.{fault_text, flaw_text, kind_text, read_fault_text, shape_fault_text}
+pub use Rattle.np_json.specs.Faults.{flaw_text, item_fault_text, kind_text, read_fault_text, shape_fault_text}
 pub use Rattle.np_json.specs.Members.{IfGiven, Scalar, as_field, as_itself, as_pairs, as_scalar, as_whole, field_by, field_map, flag_of, list_of, member_of, object_of, pairs_of, pairs_of_members, plain, scalar_of, text_of, unless_null, whole_of}
 pub use Rattle.np_json.specs.Meta.{or_default}
 unfoldable pub use Rattle.np_json.specs.Meta.{namespace, namespaced_name, type_meta}

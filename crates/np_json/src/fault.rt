@@ -83,7 +83,7 @@ impl fmt::Display for FaultKind {
 
 /// What is wrong in an item of a list of objects. It is written as `item 3: spec.podSelector: BadSelector`.
 #[derive(Debug, Drop)]
-pub struct Fault {
+pub struct ObjectFault {
     /// The number of the item, from 1 over all inputs.
     pub item: u64,
     /// Where in the item.
@@ -96,16 +96,16 @@ pub struct Fault {
 #[derive(Debug, Drop)]
 pub enum ReadFault {
     /// The item's first fault.
-    Bad(Fault),
+    Bad(ObjectFault),
     /// The system refused memory.
     NoMemory,
 }
 
-impl fmt::Display for Fault {
+impl fmt::Display for ObjectFault {
     ghost use Rattle.std.specs.Prelude.{Some};
-    ghost use Rattle.np_json.specs.Faults.{fault_text};
+    ghost use Rattle.np_json.specs.Faults.{item_fault_text};
 
-    ghost output = { λ fault. Some (fault_text fault) };
+    ghost output = { λ fault. Some (item_fault_text fault) };
 
     fn fmt<W: fmt::Write>(&self, f: &mut fmt::Formatter<W>) -> fmt::Result {
         let item = self.item;

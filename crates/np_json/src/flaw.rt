@@ -3,7 +3,7 @@ ghost use Rattle.std.specs.Prelude.{◌≡◌, IfOk};
 ghost use Rattle.np_json.specs.Shapes.{Read, Gives, or_refuse, refuse, under};
 ghost use Rattle.np_json.specs.declared.path.Step.TheVariants.{Field, Item};
 
-use crate::fault::{Fault, FaultKind, ReadFault};
+use crate::fault::{FaultKind, ObjectFault, ReadFault};
 use crate::path::Path;
 use np_base::NoMemory;
 use std::alloc::Global;
@@ -49,7 +49,11 @@ impl ShapeFault {
         ensures { result ≡ fault_of item self }
     {
         match self {
-            ShapeFault::Bad(Flaw { path, kind }) => ReadFault::Bad(Fault { item, path, kind }),
+            ShapeFault::Bad(Flaw { path, kind }) => ReadFault::Bad(ObjectFault {
+                item,
+                path,
+                kind,
+            }),
             ShapeFault::NoMemory => ReadFault::NoMemory,
         }
     }

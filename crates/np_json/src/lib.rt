@@ -12,7 +12,7 @@ mod path;
 mod scalars;
 mod shape;
 
-pub use fault::{Fault, FaultKind, ReadFault};
+pub use fault::{FaultKind, ObjectFault, ReadFault};
 pub use field::{
     Field, NumberOrText, either_field, flag_field, list_field, member, object_field, text_field,
     whole_field,

@@ -15,7 +15,7 @@ use Rattle.np_model.specs.declared.admin_policy.AdminPort.TheVariants as admin_p
 use Rattle.np_model.specs.declared.network_policy.NetPeer.TheVariants as net
 use Rattle.np_model.specs.declared.network_policy.NetPort.TheVariants as net_port
 use Rattle.np_rules.proofs.BlockPeers.{by_blocks}
-use Rattle.np_rules.specs.Prelude.{End, PodEnd, address, admin_entry_matches, admin_peer_matches, has_named, net_entry_matches, net_peer_matches, pod, pods_match, some_inside}
+use Rattle.np_rules.specs.Prelude.{ModelEnd, PodEnd, address, admin_entry_matches, admin_peer_matches, has_named, net_entry_matches, net_peer_matches, pod, pods_match, some_inside}
 
 -- two pods with equal namespaces and named ports
 pub record SamePod (p q : PodEnd) : Type 0 where
@@ -24,26 +24,26 @@ pub record SamePod (p q : PodEnd) : Type 0 where
   pub ports : p.ports ≡ q.ports
 
 -- two such pods, or one address twice
-abbrev pub SameEnd : End → End → Type 0
+abbrev pub SameEnd : ModelEnd → ModelEnd → Type 0
 SameEnd (pod p) (pod q) = SamePod p q
 SameEnd (address a) (address b) = a ≡ b
 SameEnd (pod p) (address b) = ⊥
 SameEnd (address a) (pod q) = ⊥
 
-abbrev value_at : End → List ℕ → Option (List ℕ)
+abbrev value_at : ModelEnd → List ℕ → Option (List ℕ)
 value_at (pod p) key = value_of p.labels key
 value_at (address a) key = None
 
-abbrev is_inside : End → Cidr → Bool
+abbrev is_inside : ModelEnd → Cidr → Bool
 is_inside (pod p) cidr = is_in p.addresses cidr
 is_inside (address a) cidr = cidr_has cidr a
 
 -- both ends have the same value of the key
-abbrev pub AgreeAt : End → End → List ℕ → Type 0
+abbrev pub AgreeAt : ModelEnd → ModelEnd → List ℕ → Type 0
 AgreeAt one other key = value_at one key ≡ value_at other key
 
 -- both ends have an address in the block, or neither has
-abbrev pub AgreeIn : End → End → Cidr → Type 0
+abbrev pub AgreeIn : ModelEnd → ModelEnd → Cidr → Type 0
 AgreeIn one other cidr = is_inside one cidr ≡ is_inside other cidr
 
 -- ---- peers of NetworkPolicies
@@ -57,7 +57,7 @@ pods-same namespace (Some namespaces) (Some pods) p q same agree =
     let parts = All-parts (AgreeOn p.labels q.labels) (keys_of_selector namespaces) (keys_of_selector pods) agree in
     rw (same.namespace_labels, selector-agree p.labels q.labels pods parts.1) refl
 
-pub net_peer-same : (namespace : List ℕ) (peer : NetPeer) (one other : End) → SameEnd one other → AllByRecursion (AgreeAt one other) (keys_of_net_peer peer) →
+pub net_peer-same : (namespace : List ℕ) (peer : NetPeer) (one other : ModelEnd) → SameEnd one other → AllByRecursion (AgreeAt one other) (keys_of_net_peer peer) →
     net_peer_matches namespace peer one ≡ net_peer_matches namespace peer other
 net_peer-same namespace (net.Pods namespaces pods) (pod p) (pod q) same agree = pods-same namespace namespaces pods p q same agree
 net_peer-same namespace (net.Pods namespaces pods) (address a) (address b) same agree = refl
@@ -73,7 +73,7 @@ inside-same : (family : Family) (one other : List Address) (cidrs : List Cidr) �
 inside-same family one other [] agree = refl
 inside-same family one other (cidr ∷ cidrs) agree = rw (agree.0, inside-same family one other cidrs agree.1) refl
 
-pub admin_peer-same : (peer : AdminPeer) (one other : End) (family : Family) → SameEnd one other → AllByRecursion (AgreeAt one other) (keys_of_admin_peer peer) →
+pub admin_peer-same : (peer : AdminPeer) (one other : ModelEnd) (family : Family) → SameEnd one other → AllByRecursion (AgreeAt one other) (keys_of_admin_peer peer) →
     AllByRecursion (AgreeIn one other) (cidrs_of_peer peer) → admin_peer_matches peer one family ≡ admin_peer_matches peer other family
 admin_peer-same (admin.Pods namespaces pods) (pod p) (pod q) family same agree within =
     let parts = All-parts (AgreeOn p.labels q.labels) (keys_of_selector namespaces) (keys_of_selector pods) agree in
@@ -87,16 +87,16 @@ admin_peer-same peer (address a) (pod q) family same agree within = absurd same
 
 -- ---- port entries
 
-named-same : (name : List ℕ) (spot : PortSpot) (one other : End) → SameEnd one other → has_named name spot one ≡ has_named name spot other
+named-same : (name : List ℕ) (spot : PortSpot) (one other : ModelEnd) → SameEnd one other → has_named name spot one ≡ has_named name spot other
 named-same name spot (pod p) (pod q) same = rw same.ports refl
 named-same name spot (address a) (address b) same = refl
 named-same name spot (pod p) (address b) same = absurd same
 named-same name spot (address a) (pod q) same = absurd same
 
-pub net_entry-same : (one other : End) (spot : PortSpot) → SameEnd one other → (entry : NetPort) → net_entry_matches entry one spot ≡ net_entry_matches entry other spot
+pub net_entry-same : (one other : ModelEnd) (spot : PortSpot) → SameEnd one other → (entry : NetPort) → net_entry_matches entry one spot ≡ net_entry_matches entry other spot
 net_entry-same one other spot same (net_port.Span proto lo hi) = refl
 net_entry-same one other spot same (net_port.Named proto name) = ap (λ b. same_proto spot.proto proto && b) (named-same name spot one other same)
 
-pub admin_entry-same : (one other : End) (spot : PortSpot) → SameEnd one other → (entry : AdminPort) → admin_entry_matches entry one spot ≡ admin_entry_matches entry other spot
+pub admin_entry-same : (one other : ModelEnd) (spot : PortSpot) → SameEnd one other → (entry : AdminPort) → admin_entry_matches entry one spot ≡ admin_entry_matches entry other spot
 admin_entry-same one other spot same (admin_port.Span proto lo hi) = refl
 admin_entry-same one other spot same (admin_port.Named name) = named-same name spot one other same

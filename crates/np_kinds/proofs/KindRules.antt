@@ -7,7 +7,7 @@ use Rattle.np_fold.specs.Prelude.{cidrs_of_peer, cidrs_of_rule, keys_of_admin_pe
 use Rattle.np_rules.proofs.EachItem.{All-both, All-each, All-flat, list_any-same, none_or_any-same}
 use Rattle.np_kinds.proofs.KindPeers.{AgreeAt, AgreeIn, SameEnd, admin_entry-same, admin_peer-same, net_entry-same, net_peer-same}
 use Rattle.np_model.specs.declared.admin_policy.AdminRule.{AdminRule}
-use Rattle.np_rules.specs.Prelude.{Contact, End, admin_entry_matches, admin_peer_matches, admin_rule_matches, net_entry_matches, net_peer_matches, net_rule_matches, none_or_any}
+use Rattle.np_rules.specs.Prelude.{Contact, ModelEnd, admin_entry_matches, admin_peer_matches, admin_rule_matches, net_entry_matches, net_peer_matches, net_rule_matches, none_or_any}
 
 -- two contacts of one family, protocol and port, whose ends are the same but for labels and addresses
 pub record SameContact (one other : Contact) : Type 0 where
@@ -18,13 +18,13 @@ pub record SameContact (one other : Contact) : Type 0 where
 
 -- ---- rules of NetworkPolicies
 
-net_peers-same : (namespace : List ℕ) (one other : End) → SameEnd one other → (peers : List NetPeer) → AllByRecursion (AgreeAt one other) (flat_map keys_of_net_peer peers) →
+net_peers-same : (namespace : List ℕ) (one other : ModelEnd) → SameEnd one other → (peers : List NetPeer) → AllByRecursion (AgreeAt one other) (flat_map keys_of_net_peer peers) →
     AllByRecursion (λ peer. net_peer_matches namespace peer one ≡ net_peer_matches namespace peer other) peers
 net_peers-same namespace one other same peers agree =
     All-weaker (λ peer. AllByRecursion (AgreeAt one other) (keys_of_net_peer peer)) (λ peer. net_peer_matches namespace peer one ≡ net_peer_matches namespace peer other)
     (λ peer on. net_peer-same namespace peer one other same on) peers (All-flat (AgreeAt one other) keys_of_net_peer peers agree)
 
-net_ports-same : (one other : End) (spot spot' : PortSpot) → SameEnd one other → spot ≡ spot' → (ports : List NetPort) →
+net_ports-same : (one other : ModelEnd) (spot spot' : PortSpot) → SameEnd one other → spot ≡ spot' → (ports : List NetPort) →
     none_or_any (λ entry. net_entry_matches entry one spot) ports ≡ none_or_any (λ entry. net_entry_matches entry other spot') ports
 net_ports-same one other spot spot' same is ports =
     none_or_any-same (λ entry. net_entry_matches entry one spot) (λ entry. net_entry_matches entry other spot') ports
@@ -41,7 +41,7 @@ net_rule-same namespace one other same rule agree =
 
 -- ---- admin rules
 
-admin_peers-same : (one other : End) (family family' : Family) → SameEnd one other → family ≡ family' → (peers : List AdminPeer) →
+admin_peers-same : (one other : ModelEnd) (family family' : Family) → SameEnd one other → family ≡ family' → (peers : List AdminPeer) →
     AllByRecursion (AgreeAt one other) (flat_map keys_of_admin_peer peers) → AllByRecursion (AgreeIn one other) (flat_map cidrs_of_peer peers) →
     AllByRecursion (λ peer. admin_peer_matches peer one family ≡ admin_peer_matches peer other family') peers
 admin_peers-same one other family family' same is peers agree within =
@@ -51,7 +51,7 @@ admin_peers-same one other family family' same is peers agree within =
     (λ peer. admin_peer_matches peer one family ≡ admin_peer_matches peer other family')
     (λ peer on. admin_peer-same peer one other family same on.0 on.1 ∙ ap (admin_peer_matches peer other) is) peers (All-both _ _ peers keys cidrs)
 
-admin_ports-same : (one other : End) (spot spot' : PortSpot) → SameEnd one other → spot ≡ spot' → (ports : List AdminPort) →
+admin_ports-same : (one other : ModelEnd) (spot spot' : PortSpot) → SameEnd one other → spot ≡ spot' → (ports : List AdminPort) →
     none_or_any (λ entry. admin_entry_matches entry one spot) ports ≡ none_or_any (λ entry. admin_entry_matches entry other spot') ports
 admin_ports-same one other spot spot' same is ports =
     none_or_any-same (λ entry. admin_entry_matches entry one spot) (λ entry. admin_entry_matches entry other spot') ports

@@ -15,7 +15,7 @@ use Rattle.np_kinds.proofs.KindRules.{SameContact}
 use Rattle.np_kinds.proofs.KindSides.{admin_places-alike, admin_places-same, base_places-alike, base_places-same, net_places-alike, net_places-same, net_selects-same}
 use Rattle.np_model.specs.declared.admin_policy.Action.{Action}
 use Rattle.np_model.specs.declared.admin_policy.Action.TheVariants.{Allow, Deny, Pass}
-use Rattle.np_rules.specs.Prelude.{Contact, End, Packet, PlacedAdminRule, PodEnd, action_decides, address, admin_decider, admin_decides, admin_places, admin_precedes, admin_rule_matches, admin_rule_name, admin_says, allows, base_decider, base_decides, base_places, base_says, contact_of, decider, end_allows, end_rule_count, is_isolated, isolates, isolating_names, least_by, lower_allows, lower_decider, net_decider, net_decides, net_places, net_policy_name, net_precedes, net_rules_of, net_selects, permits, placed_net_matches, pod, pod_end, rule_count, side_allows}
+use Rattle.np_rules.specs.Prelude.{Contact, ModelEnd, ModelPacket, PlacedAdminRule, PodEnd, action_decides, address, admin_decider, admin_decides, admin_places, admin_precedes, admin_rule_matches, admin_rule_name, admin_says, allows, base_decider, base_decides, base_places, base_says, contact_of, decider, end_allows, end_rule_count, is_isolated, isolates, isolating_names, least_by, lower_allows, lower_decider, net_decider, net_decides, net_places, net_policy_name, net_precedes, net_rules_of, net_selects, permits, placed_net_matches, pod, pod_end, rule_count, side_allows}
 use Rattle.np_rules.specs.declared.decider.Decider.{Decider}
 use Rattle.np_rules.specs.declared.decider.RuleName.{RuleName}
 
@@ -131,7 +131,7 @@ module _ (lists : EstateLists) (direction : Direction) (p q : PodEnd) (one other
 -- ---- ends and packets
 
 -- two ends that no rule of the lists tells apart
-pub record SameKindEnd (lists : EstateLists) (one other : End) : Type 0 where
+pub record SameKindEnd (lists : EstateLists) (one other : ModelEnd) : Type 0 where
   same : SameEnd one other
   keys : OfPolicies (AgreeAt one other) lists
   cidrs : AllByRecursion (AgreeIn one other) (cidrs_of_estate lists)
@@ -143,11 +143,11 @@ SameKindEnd-pods lists a b kind labels = record {
   cidrs = recursion_from_All _ (cidrs_of_estate lists) kind.blocks;
 }
 
-SameEnd-refl : (end : End) → SameEnd end end
+SameEnd-refl : (end : ModelEnd) → SameEnd end end
 SameEnd-refl (pod p) = record { namespace = refl; namespace_labels = refl; ports = refl }
 SameEnd-refl (address a) = refl
 
-SameKindEnd-refl : (lists : EstateLists) (end : End) → SameKindEnd lists end end
+SameKindEnd-refl : (lists : EstateLists) (end : ModelEnd) → SameKindEnd lists end end
 SameKindEnd-refl lists end = record {
   same = SameEnd-refl end;
   keys = OfPolicies-from (AgreeAt end end) lists (All-each (AgreeAt end end) (λ key. refl) (keys_of_estate lists));
@@ -155,12 +155,12 @@ SameKindEnd-refl lists end = record {
 }
 
 -- ends of one kind are such
-pub SameKindEnd-ends : (lists : EstateLists) (one other : End) → AreOneKind lists one other → SameKindEnd lists one other
+pub SameKindEnd-ends : (lists : EstateLists) (one other : ModelEnd) → AreOneKind lists one other → SameKindEnd lists one other
 SameKindEnd-ends lists one other (inl pods) = rw pods.one_is (rw pods.other_is (SameKindEnd-pods lists pods.first pods.second pods.kind pods.namespace))
 SameKindEnd-ends lists one other (inr same) = subst (SameKindEnd lists one) same (SameKindEnd-refl lists one)
 
 -- the side of an end says the same of two contacts whose far ends are of one kind
-end-same : (lists : EstateLists) (direction : Direction) (near near' : End) (one other : Contact) → SameKindEnd lists near near' → SameContact one other → SameKindEnd lists one.far other.far →
+end-same : (lists : EstateLists) (direction : Direction) (near near' : ModelEnd) (one other : Contact) → SameKindEnd lists near near' → SameContact one other → SameKindEnd lists one.far other.far →
     end_allows lists direction near one ≡ end_allows lists direction near' other
 end-same lists direction (pod p) (pod q) one other near same far = side-same lists direction p q one other near.same same near.keys far.keys far.cidrs
 end-same lists direction (address a) (address b) one other near same far = refl
@@ -168,26 +168,26 @@ end-same lists direction (pod p) (address b) one other near same far = absurd ne
 end-same lists direction (address a) (pod q) one other near same far = absurd near.same
 
 -- so does what decides there
-deciders-same : (lists : EstateLists) (direction : Direction) (near near' : End) (one other : Contact) → SameKindEnd lists near near' → SameContact one other → SameKindEnd lists one.far other.far →
+deciders-same : (lists : EstateLists) (direction : Direction) (near near' : ModelEnd) (one other : Contact) → SameKindEnd lists near near' → SameContact one other → SameKindEnd lists one.far other.far →
     decider lists direction near one ≡ decider lists direction near' other
 deciders-same lists direction (pod p) (pod q) one other near same far = decider-same lists direction p q one other near.same same near.keys far.keys far.cidrs
 deciders-same lists direction (address a) (address b) one other near same far = refl
 deciders-same lists direction (pod p) (address b) one other near same far = absurd near.same
 deciders-same lists direction (address a) (pod q) one other near same far = absurd near.same
 
-pub packet-same : (lists : EstateLists) (family : Family) (spot : PortSpot) (a a' b b' : End) → SameKindEnd lists a a' → SameKindEnd lists b b' →
+pub packet-same : (lists : EstateLists) (family : Family) (spot : PortSpot) (a a' b b' : ModelEnd) → SameKindEnd lists a a' → SameKindEnd lists b b' →
     allows lists (record { source = a; destination = b; family = family; spot = spot }) ≡ allows lists (record { source = a'; destination = b'; family = family; spot = spot })
 unfolding allows
 packet-same lists family spot a a' b b' first second =
-    let one : Packet = record { source = a; destination = b; family = family; spot = spot } in
-    let other : Packet = record { source = a'; destination = b'; family = family; spot = spot } in
+    let one : ModelPacket = record { source = a; destination = b; family = family; spot = spot } in
+    let other : ModelPacket = record { source = a'; destination = b'; family = family; spot = spot } in
     let leaves = end-same lists Egress a a' (contact_of Egress one) (contact_of Egress other) first (record { far = second.same; destination = second.same; family = refl; spot = refl }) second in
     let enters = end-same lists Ingress b b' (contact_of Ingress one) (contact_of Ingress other) second (record { far = first.same; destination = second.same; family = refl; spot = refl }) first in
     ap (λ allowed. allowed && end_allows lists Ingress b (contact_of Ingress one)) leaves
     ∙ ap (λ allowed. end_allows lists Egress a' (contact_of Egress other) && allowed) enters
 
 -- as many rules speak of ends of one kind
-pub end_rule_count-same : (lists : EstateLists) (direction : Direction) (near near' : End) → SameKindEnd lists near near' → end_rule_count lists direction near ≡ end_rule_count lists direction near'
+pub end_rule_count-same : (lists : EstateLists) (direction : Direction) (near near' : ModelEnd) → SameKindEnd lists near near' → end_rule_count lists direction near ≡ end_rule_count lists direction near'
 end_rule_count-same lists direction (pod p) (pod q) near =
     let with : PodEnd → Contact = λ x. record { far = pod x; destination = pod x; family = Four; spot = record { proto = Tcp; port = 1 } } in
     rule_count-same lists direction p q (with p) (with q) near.same (record { far = near.same; destination = near.same; family = refl; spot = refl }) near.keys near.keys near.cidrs
@@ -198,19 +198,19 @@ end_rule_count-same lists direction (address a) (pod q) near = absurd near.same
 -- ---- what decides a packet
 
 -- at its source
-pub sent-same : (lists : EstateLists) (family : Family) (spot : PortSpot) (a a' b b' : End) → SameKindEnd lists a a' → SameKindEnd lists b b' →
+pub sent-same : (lists : EstateLists) (family : Family) (spot : PortSpot) (a a' b b' : ModelEnd) → SameKindEnd lists a a' → SameKindEnd lists b b' →
     decider lists Egress a (contact_of Egress (record { source = a; destination = b; family = family; spot = spot })) ≡ decider lists Egress a'
     (contact_of Egress (record { source = a'; destination = b'; family = family; spot = spot }))
 sent-same lists family spot a a' b b' first second =
-    let one : Packet = record { source = a; destination = b; family = family; spot = spot } in
-    let other : Packet = record { source = a'; destination = b'; family = family; spot = spot } in
+    let one : ModelPacket = record { source = a; destination = b; family = family; spot = spot } in
+    let other : ModelPacket = record { source = a'; destination = b'; family = family; spot = spot } in
     deciders-same lists Egress a a' (contact_of Egress one) (contact_of Egress other) first (record { far = second.same; destination = second.same; family = refl; spot = refl }) second
 
 -- and at its destination
-pub got-same : (lists : EstateLists) (family : Family) (spot : PortSpot) (a a' b b' : End) → SameKindEnd lists a a' → SameKindEnd lists b b' →
+pub got-same : (lists : EstateLists) (family : Family) (spot : PortSpot) (a a' b b' : ModelEnd) → SameKindEnd lists a a' → SameKindEnd lists b b' →
     decider lists Ingress b (contact_of Ingress (record { source = a; destination = b; family = family; spot = spot })) ≡ decider lists Ingress b'
     (contact_of Ingress (record { source = a'; destination = b'; family = family; spot = spot }))
 got-same lists family spot a a' b b' first second =
-    let one : Packet = record { source = a; destination = b; family = family; spot = spot } in
-    let other : Packet = record { source = a'; destination = b'; family = family; spot = spot } in
+    let one : ModelPacket = record { source = a; destination = b; family = family; spot = spot } in
+    let other : ModelPacket = record { source = a'; destination = b'; family = family; spot = spot } in
     deciders-same lists Ingress b b' (contact_of Ingress one) (contact_of Ingress other) second (record { far = first.same; destination = second.same; family = refl; spot = refl }) first

@@ -8,7 +8,7 @@ use Rattle.std.proofs.lemmas.List.Elements.{All-contains, Contains-get_or}
 use Rattle.std.proofs.lemmas.List.Folds.{Any-from_list_any, list_any_at}
 use Rattle.std.proofs.lemmas.Option.{slice_get-get_or}
 use Rattle.np_kinds.specs.Prelude.{EstateLists, Pod, destination_pod, is_alone, source_pod}
-use Rattle.np_fold.specs.Prelude.{Folding, Workload, folding_of, has_member, members_of, number_of, workloads_of}
+use Rattle.np_fold.specs.Prelude.{Folding, Workload, folding_of, has_pod, members_of, workload_number, workloads_of}
 use Rattle.np_fold.proofs.WorkloadLemmas.{first-is, member-by_number, number-in_workloads, pods-within}
 use Rattle.np_rules.specs.Prelude.{no_pod, pod_end}
 
@@ -64,11 +64,11 @@ destination-member folding source destination some alone =
 -- ---- members and numbers
 
 -- members are found by the question
-has_member-from : (one : Workload) (place : ℕ) → Contains one.members place → has_member place one ≡ true
+has_member-from : (one : Workload) (place : ℕ) → Contains one.members place → has_pod place one ≡ true
 has_member-from one place has = list_any_at (λ (member : ℕ). member == place) one.members has.0 place has.1 (eq-eqb _ place has.2)
 
 -- and no other places
-from_has_member : (one : Workload) (place : ℕ) → has_member place one ≡ true → Contains one.members place
+from_has_member : (one : Workload) (place : ℕ) → has_pod place one ≡ true → Contains one.members place
 from_has_member one place has =
     let any = Any-from_list_any (λ (member : ℕ). member == place) one.members has in
     let at : ℕ → Type 0 = λ n. slice_index_or one.members any.0 n ≡ n in
@@ -78,30 +78,30 @@ nothing_in_none : (place : ℕ) → Contains [] place → ⊥
 nothing_in_none place has = omega (arith, has.1)
 
 number-by : (lists : EstateLists) (number place : ℕ) (found : Option Workload) → slice_get (workloads_of lists) number ≡ found → place < length lists.pods →
-    Contains (option_map_or (λ one. one.members) found []) place → number_of lists place ≡ number
+    Contains (option_map_or (λ one. one.members) found []) place → workload_number lists place ≡ number
 number-by lists number place None is within has = absurd (nothing_in_none place has)
 number-by lists number place (Some one) is within has =
-    sym (eqb-true number (number_of lists place) (sym (member-by_number lists place number one within is) ∙ has_member-from one place has))
+    sym (eqb-true number (workload_number lists place) (sym (member-by_number lists place number one within is) ∙ has_member-from one place has))
 
 -- a member of a workload has the workload's number
-pub member-number : (lists : EstateLists) (number place : ℕ) → place < length lists.pods → Contains (members_of (folding_of lists) number) place → number_of lists place ≡ number
+pub member-number : (lists : EstateLists) (number place : ℕ) → place < length lists.pods → Contains (members_of (folding_of lists) number) place → workload_number lists place ≡ number
 unfolding folding_of
 member-number lists number place within has = number-by lists number place (slice_get (workloads_of lists) number) refl within has
 
-own-by : (lists : EstateLists) (place : ℕ) (found : Option Workload) → slice_get (workloads_of lists) (number_of lists place) ≡ found → place < length lists.pods →
+own-by : (lists : EstateLists) (place : ℕ) (found : Option Workload) → slice_get (workloads_of lists) (workload_number lists place) ≡ found → place < length lists.pods →
     Contains (option_map_or (λ one. one.members) found []) place
-own-by lists place None is within = absurd (none (workloads_of lists) (number_of lists place) (number-in_workloads lists place within) is)
+own-by lists place None is within = absurd (none (workloads_of lists) (workload_number lists place) (number-in_workloads lists place within) is)
   where
     none : (xs : List Workload) (i : ℕ) → i < length xs → slice_get xs i ≡ None → ⊥
     none [] i below is = omega arith
     none (x ∷ xs) i below is = let here : slice_get (x ∷ xs) i ≡ Some (get_or (x ∷ xs) i x) = slice_get-get_or (x ∷ xs) i x below in cc
 own-by lists place (Some one) is within =
-    from_has_member one place (member-by_number lists place (number_of lists place) one within is ∙ eq-eqb (number_of lists place) (number_of lists place) refl)
+    from_has_member one place (member-by_number lists place (workload_number lists place) one within is ∙ eq-eqb (workload_number lists place) (workload_number lists place) refl)
 
 -- and a pod is a member of the workload of its number
-pub own-member : (lists : EstateLists) (place : ℕ) → place < length lists.pods → Contains (members_of (folding_of lists) (number_of lists place)) place
+pub own-member : (lists : EstateLists) (place : ℕ) → place < length lists.pods → Contains (members_of (folding_of lists) (workload_number lists place)) place
 unfolding folding_of
-own-member lists place within = own-by lists place (slice_get (workloads_of lists) (number_of lists place)) refl within
+own-member lists place within = own-by lists place (slice_get (workloads_of lists) (workload_number lists place)) refl within
 
 -- ---- two pods
 

@@ -3,14 +3,14 @@ use Rattle.std.proofs.Common.{◌≡◌, ◌≢◌, ◌<◌, ℕ, List, [], ◌�
 use Rattle.std.specs.Option.{option_map_or}
 use Rattle.std.specs.Prelude.{IsSomeAnd}
 use Rattle.np_base.proofs.Lists.{slice_get-some}
-use Rattle.np_kinds.specs.Prelude.{AreOneKind, Direction, Egress, EstateLists, Family, Ingress, Pod, PortSpot, address_allows, address_of, between_pods, destination_pod, is_alone, pair_allows, source_pod, with_address}
+use Rattle.np_kinds.specs.Prelude.{AreOneKind, Direction, Egress, EstateLists, Family, Ingress, Pod, PortSpot, address_allows, address_numbered, between_pods, destination_pod, is_alone, pair_allows, source_pod, with_address}
 use Rattle.np_classes.specs.Classes.{class_of}
 use Rattle.np_model.specs.Prelude.{IsLawful}
 use Rattle.np_fold.proofs.NamespaceLemmas.{labels_agree}
 use Rattle.np_fold.proofs.WorkloadLemmas.{first-is, number-in_workloads, one_kind, one_workload, workloads-count}
-use Rattle.np_fold.specs.Prelude.{Folding, IsSameKind, first_pod, folding_of, kinds_alike, members_of, number_of, workload_count, workloads_of}
+use Rattle.np_fold.specs.Prelude.{Folding, IsSameKind, first_pod, folding_of, kinds_alike, members_of, workload_count, workload_number, workloads_of}
 use Rattle.np_kinds.proofs.KindVerdicts.{SameKindEnd-ends, end_rule_count-same, packet-same}
-use Rattle.np_rules.specs.Prelude.{End, address, no_pod, pod, pod_at, pod_end, rule_count}
+use Rattle.np_rules.specs.Prelude.{ModelEnd, address, no_pod, pod, pod_at, pod_end, rule_count}
 use Rattle.np_kinds.proofs.MemberLemmas.{destination-member, member-number, members-some, members-within, not-alone, own-member, source-member}
 
 -- ---- pods of one kind
@@ -33,7 +33,7 @@ pub pod_there : (lists : EstateLists) (place : ℕ) → place < length lists.pod
 pod_there lists place within = slice_get-some lists.pods place within
 
 -- the pods of a workload are of one kind
-one_kind-members : (lists : EstateLists) (p q : ℕ) → IsLawful lists → p < length lists.pods → q < length lists.pods → number_of lists p ≡ number_of lists q →
+one_kind-members : (lists : EstateLists) (p q : ℕ) → IsLawful lists → p < length lists.pods → q < length lists.pods → workload_number lists p ≡ workload_number lists q →
     AreOneKind lists (pod (pod_at lists p)) (pod (pod_at lists q))
 one_kind-members lists p q lawful p_in q_in same =
     let a = pod_there lists p p_in in
@@ -49,12 +49,12 @@ between-same lists p p' q q' family spot first second =
     packet-same lists family spot (pod (pod_at lists p)) (pod (pod_at lists p')) (pod (pod_at lists q)) (pod (pod_at lists q')) (SameKindEnd-ends lists _ _ first) (SameKindEnd-ends lists _ _ second)
 
 -- and between such a pod and an address
-pub with_address-same : (lists : EstateLists) (direction : Direction) (near near' : End) (family : Family) (number : ℕ) (spot : PortSpot) → AreOneKind lists near near' →
+pub with_address-same : (lists : EstateLists) (direction : Direction) (near near' : ModelEnd) (family : Family) (number : ℕ) (spot : PortSpot) → AreOneKind lists near near' →
     with_address lists direction near family number spot ≡ with_address lists direction near' family number spot
 with_address-same lists Ingress near near' family number spot same =
-    packet-same lists family spot (address (address_of family number)) (address (address_of family number)) near near' (SameKindEnd-ends lists _ _ (inr refl)) (SameKindEnd-ends lists _ _ same)
+    packet-same lists family spot (address (address_numbered family number)) (address (address_numbered family number)) near near' (SameKindEnd-ends lists _ _ (inr refl)) (SameKindEnd-ends lists _ _ same)
 with_address-same lists Egress near near' family number spot same =
-    packet-same lists family spot near near' (address (address_of family number)) (address (address_of family number)) (SameKindEnd-ends lists _ _ same) (SameKindEnd-ends lists _ _ (inr refl))
+    packet-same lists family spot near near' (address (address_numbered family number)) (address (address_numbered family number)) (SameKindEnd-ends lists _ _ same) (SameKindEnd-ends lists _ _ (inr refl))
 
 -- what passes between workloads that are not one pod alone
 pub pair_allows-between : (lists : EstateLists) (folding : Folding) (source destination : ℕ) (family : Family) (spot : PortSpot) → is_alone folding source destination ≡ false →
@@ -112,7 +112,7 @@ pair_allows-alone lists folding source destination family spot alone = rw alone 
 -- ---- numbers of workloads
 
 -- the number of a pod's workload is one of the folding
-number-within : (lists : EstateLists) (place : ℕ) → place < length lists.pods → number_of lists place < length (folding_of lists).workloads
+number-within : (lists : EstateLists) (place : ℕ) → place < length lists.pods → workload_number lists place < length (folding_of lists).workloads
 unfolding folding_of
 number-within lists place within = number-in_workloads lists place within
 
@@ -136,23 +136,23 @@ source-within lists number within =
 
 -- folding loses no verdict between pods
 pub between_pods-pair_allows : (lists : EstateLists) (p q : ℕ) (family : Family) (spot : PortSpot) → IsLawful lists → p < length lists.pods → q < length lists.pods → p ≢ q →
-    between_pods lists p q family spot ≡ pair_allows lists (folding_of lists) (number_of lists p) (number_of lists q) family spot
+    between_pods lists p q family spot ≡ pair_allows lists (folding_of lists) (workload_number lists p) (workload_number lists q) family spot
 between_pods-pair_allows lists p q family spot lawful p_in q_in differ =
-    between-members lists (number_of lists p) (number_of lists q) p q family spot lawful (number-within lists p p_in) (number-within lists q q_in) (own-member lists p p_in)
+    between-members lists (workload_number lists p) (workload_number lists q) p q family spot lawful (number-within lists p p_in) (number-within lists q q_in) (own-member lists p p_in)
     (own-member lists q q_in) differ
 
 -- nor between pods and addresses
 pub with_address-address_allows : (lists : EstateLists) (p : ℕ) (direction : Direction) (family : Family) (number : ℕ) (spot : PortSpot) → IsLawful lists → p < length lists.pods →
-    with_address lists direction (pod (pod_at lists p)) family number spot ≡ address_allows lists (folding_of lists) (number_of lists p) direction family number spot
+    with_address lists direction (pod (pod_at lists p)) family number spot ≡ address_allows lists (folding_of lists) (workload_number lists p) direction family number spot
 unfolding address_allows
 with_address-address_allows lists p direction family number spot lawful p_in =
     let folding = folding_of lists in
-    let near = source_pod folding (number_of lists p) in
+    let near = source_pod folding (workload_number lists p) in
     let within = number-within lists p p_in in
-    let near_has = source-member folding (number_of lists p) (members-some lists folding (number_of lists p) refl within) in
-    let near_in = members-within lists folding (number_of lists p) near refl within near_has in
+    let near_has = source-member folding (workload_number lists p) (members-some lists folding (workload_number lists p) refl within) in
+    let near_in = members-within lists folding (workload_number lists p) near refl within near_has in
     with_address-same lists direction (pod (pod_at lists p)) (pod (pod_at lists near)) family number spot
-    (one_kind-members lists p near lawful p_in near_in (sym (member-number lists (number_of lists p) near near_in near_has)))
+    (one_kind-members lists p near lawful p_in near_in (sym (member-number lists (workload_number lists p) near near_in near_has)))
 
 -- ---- kinds
 

@@ -4,7 +4,7 @@ use Rattle.np_kinds.specs.Types.{Address, Direction, Egress, EstateLists, Family
 use Rattle.np_addr.specs.declared.address.Address.TheVariants as address
 use Rattle.np_addr.specs.declared.address.Family.TheVariants as family
 use Rattle.np_fold.specs.Prelude.{Folding, folding_of, members_of}
-use Rattle.np_rules.specs.Prelude.{End, address, allows, pod, pod_at}
+use Rattle.np_rules.specs.Prelude.{ModelEnd, address, allows, pod, pod_at}
 
 -- ---- pairs of workloads
 
@@ -41,15 +41,15 @@ pair_allows lists folding source destination family spot = not (is_alone folding
 -- ---- addresses
 
 -- the address of a family and a number
-abbrev pub address_of : Family → ℕ → Address
-address_of family.Four number = address.Four number
-address_of family.Six number = address.Six number
+abbrev pub address_numbered : Family → ℕ → Address
+address_numbered family.Four number = address.Four number
+address_numbered family.Six number = address.Six number
 
 -- Whether a packet from an address to an end, or from the end to it, is allowed. The address is taken as no pod's, even
 -- where a listed pod has it.
-abbrev pub with_address : EstateLists → Direction → End → Family → ℕ → PortSpot → Bool
-with_address lists Ingress near family number spot = allows lists (record { source = address (address_of family number); destination = near; family = family; spot = spot })
-with_address lists Egress near family number spot = allows lists (record { source = near; destination = address (address_of family number); family = family; spot = spot })
+abbrev pub with_address : EstateLists → Direction → ModelEnd → Family → ℕ → PortSpot → Bool
+with_address lists Ingress near family number spot = allows lists (record { source = address (address_numbered family number); destination = near; family = family; spot = spot })
+with_address lists Egress near family number spot = allows lists (record { source = near; destination = address (address_numbered family number); family = family; spot = spot })
 
 -- whether packets between a workload and an address are allowed, to the workload or from it
 unfoldable pub address_allows : EstateLists → Folding → ℕ → Direction → Family → ℕ → PortSpot → Bool

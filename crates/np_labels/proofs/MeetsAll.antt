@@ -9,19 +9,19 @@ use Rattle.std.proofs.lemmas.List.Folds.{list_all_more}
 use Rattle.std.proofs.Math.Bool.{and-true}
 use Rattle.std.proofs.lemmas.Bool.{and_from}
 use Rattle.std.proofs.lemmas.Map.Text.{is_eq-slice_cmp}
-use Rattle.np_labels.specs.Prelude.{Demand, Pair, Requirement, admits, admits_unless_free, allowed_at, allows, meets_requirement, value_of}
+use Rattle.np_labels.specs.Prelude.{Demand, Pair, Requirement, admits, admits_unless_free, allowed_at, meets_requirement, op_allows, value_of}
 
 -- whether labels meet all requirements
 abbrev pub meets_all : List Requirement → List Pair → Bool
 meets_all requirements labels = list_all (λ requirement. meets_requirement requirement labels) requirements
 
 allows_here : (requirement : Requirement) (labels : List Pair) (key : List ℕ) → meets_requirement requirement labels ≡ true →
-    (not (bytes_eq requirement.key key) || allows requirement.op requirement.values (value_of labels key)) ≡ true
+    (not (bytes_eq requirement.key key) || op_allows requirement.op requirement.values (value_of labels key)) ≡ true
 allows_here requirement labels key met = by (bytes_eq requirement.key key) refl
   where
-    by : (b : Bool) → bytes_eq requirement.key key ≡ b → (not b || allows requirement.op requirement.values (value_of labels key)) ≡ true
+    by : (b : Bool) → bytes_eq requirement.key key ≡ b → (not b || op_allows requirement.op requirement.values (value_of labels key)) ≡ true
     by false is = refl
-    by true is = subst (λ (k : List ℕ). allows requirement.op requirement.values (value_of labels k) ≡ true) ((bytes_decides requirement.key key).0 is) met
+    by true is = subst (λ (k : List ℕ). op_allows requirement.op requirement.values (value_of labels k) ≡ true) ((bytes_decides requirement.key key).0 is) met
 
 -- labels that meet all requirements have at each key what the requirements on it allow
 pub allowed_from_met : (requirements : List Requirement) (labels : List Pair) → meets_all requirements labels ≡ true → (key : List ℕ) → allowed_at requirements key (value_of labels key) ≡ true
@@ -29,7 +29,7 @@ allowed_from_met [] labels met key = refl
 allowed_from_met (requirement ∷ requirements) labels met key =
     and_from _ _ (allows_here requirement labels key (first_so _ _ met)) (allowed_from_met requirements labels (second_so _ _ met) key)
 
-here : (requirement : Requirement) (labels : List Pair) → (not (bytes_eq requirement.key requirement.key) || allows requirement.op requirement.values (value_of labels requirement.key)) ≡ true →
+here : (requirement : Requirement) (labels : List Pair) → (not (bytes_eq requirement.key requirement.key) || op_allows requirement.op requirement.values (value_of labels requirement.key)) ≡ true →
     meets_requirement requirement labels ≡ true
 here requirement labels allowed = rw (nat_list_eq_equiv.refl requirement.key) at allowed
 
@@ -50,22 +50,22 @@ unmet_from_clash requirements key clash labels = by (meets_all requirements labe
 
 -- one more requirement
 allowed_at-more : (all : List Requirement) (i : ℕ) (item : Requirement) → i < length all → item ≡ get_or all i item → (key : List ℕ) (found : Option (List ℕ)) →
-    allowed_at (take (i + 1) all) key found ≡ (allowed_at (take i all) key found && (not (bytes_eq item.key key) || allows item.op item.values found))
+    allowed_at (take (i + 1) all) key found ≡ (allowed_at (take i all) key found && (not (bytes_eq item.key key) || op_allows item.op item.values found))
 allowed_at-more all i item below is key found =
-    list_all_more (λ (requirement : Requirement). not (bytes_eq requirement.key key) || allows requirement.op requirement.values found) all i item below ∙ rw (← is) refl
+    list_all_more (λ (requirement : Requirement). not (bytes_eq requirement.key key) || op_allows requirement.op requirement.values found) all i item below ∙ rw (← is) refl
 
 -- the demand on the key of one more requirement is narrowed, and the others stay
 pub demands_step : (all : List Requirement) (i : ℕ) (item : Requirement) → i < length all → item ≡ get_or all i item
     → (old taken new : List ℕ → Option Demand) (made : Demand)
     → ((key : List ℕ) → taken key ≡ cond (is_eq (slice_cmp nat_cmp item.key key)) None (old key))
     → ((key : List ℕ) → new key ≡ cond (is_eq (slice_cmp nat_cmp item.key key)) (Some made) (taken key))
-    → ((found : Option (List ℕ)) → admits made found ≡ (admits_unless_free (old item.key) found && allows item.op item.values found))
+    → ((found : Option (List ℕ)) → admits made found ≡ (admits_unless_free (old item.key) found && op_allows item.op item.values found))
     → ((key : List ℕ) (found : Option (List ℕ)) → admits_unless_free (old key) found ≡ allowed_at (take i all) key found)
     → (key : List ℕ) (found : Option (List ℕ)) → admits_unless_free (new key) found ≡ allowed_at (take (i + 1) all) key found
 demands_step all i item below is old taken new made removed inserted narrowed so_far key found =
     rw (allowed_at-more all i item below is key found) (by (bytes_eq item.key key) refl)
   where
-    by : (b : Bool) → bytes_eq item.key key ≡ b → admits_unless_free (new key) found ≡ (allowed_at (take i all) key found && (not b || allows item.op item.values found))
+    by : (b : Bool) → bytes_eq item.key key ≡ b → admits_unless_free (new key) found ≡ (allowed_at (take i all) key found && (not b || op_allows item.op item.values found))
     by true is_here =
         let same = (bytes_decides item.key key).0 is_here in
         rw (inserted key, is_eq-slice_cmp item.key key, is_here, narrowed found, so_far item.key found, same) refl

@@ -5,7 +5,7 @@ use Rattle.std.specs.Cmp.Lexicographic.{slice_cmp}
 use Rattle.std.specs.BTreeSet.{contains}
 use Rattle.std.specs.List.{list_all}
 use Rattle.std.specs.Str.{bytes_eq}
-use Rattle.np_labels.specs.Selectors.{allows}
+use Rattle.np_labels.specs.Selectors.{op_allows}
 use Rattle.np_labels.specs.declared.choice.Choice.{Choice}
 use Rattle.np_labels.specs.declared.choice.Choice.TheVariants.{Clash, LeftOut, Value}
 use Rattle.np_labels.specs.Types.{Demand, Requirement}
@@ -35,4 +35,4 @@ IsChoice demand (Value value) = admits demand (Some value) ≡ true
 
 -- whether all the requirements on a key allow what is found at it
 abbrev pub allowed_at : List Requirement → List ℕ → Option (List ℕ) → Bool
-allowed_at requirements key found = list_all (λ requirement. not (bytes_eq requirement.key key) || allows requirement.op requirement.values found) requirements
+allowed_at requirements key found = list_all (λ requirement. not (bytes_eq requirement.key key) || op_allows requirement.op requirement.values found) requirements

@@ -12,17 +12,17 @@ abbrev pub is_listed : List (List ℕ) → List ℕ → Bool
 is_listed values value = list_any (λ listed. bytes_eq listed value) values
 
 -- whether the value that a key has, or that it has none, is as asked
-abbrev pub allows : Op → List (List ℕ) → Option (List ℕ) → Bool
-allows OneOf values (Some value) = is_listed values value
-allows OneOf values None = false
-allows NoneOf values (Some value) = not (is_listed values value)
-allows NoneOf values None = true
-allows Present values found = is_some found
-allows Absent values found = is_none found
+abbrev pub op_allows : Op → List (List ℕ) → Option (List ℕ) → Bool
+op_allows OneOf values (Some value) = is_listed values value
+op_allows OneOf values None = false
+op_allows NoneOf values (Some value) = not (is_listed values value)
+op_allows NoneOf values None = true
+op_allows Present values found = is_some found
+op_allows Absent values found = is_none found
 
 -- whether labels meet a requirement
 abbrev pub meets_requirement : Requirement → List Pair → Bool
-meets_requirement requirement labels = allows requirement.op requirement.values (value_of labels requirement.key)
+meets_requirement requirement labels = op_allows requirement.op requirement.values (value_of labels requirement.key)
 
 -- the requirement of a key, with these values in the order of their bytes, each once
 abbrev pub requirement_of : List ℕ → Op → List (List ℕ) → Requirement

@@ -15,5 +15,5 @@ fits Absent has_values = not has_values
 abbrev pub is_well_requirement : Requirement → Bool
 is_well_requirement requirement = is_ascending requirement.values && fits requirement.op (not (length requirement.values == 0))
 
-abbrev pub is_well_selector : Selector → Bool
-is_well_selector selector = list_all is_well_requirement selector.requirements
+abbrev pub has_well_requirements : Selector → Bool
+has_well_requirements selector = list_all is_well_requirement selector.requirements

@@ -1,7 +1,7 @@
 //! What requirements on one key together leave open.
 ghost use Rattle.std.specs.Prelude.{◌≡◌, List, ℕ, true, ◌&&◌, Option, IfOk};
 ghost use Rattle.np_labels.specs.Demands.{admits, IsChoice};
-ghost use Rattle.np_labels.specs.Selectors.{allows};
+ghost use Rattle.np_labels.specs.Selectors.{op_allows};
 
 use crate::choice::Choice;
 use crate::op::Op;
@@ -30,7 +30,7 @@ impl Demand {
     /// What is left where one more requirement is to be met.
     pub(crate) fn narrow(self, alloc: Global, op: Op, listed: &[Text]) -> Result<Demand, NoMemory>
         ensures { IfOk result (λ made. (found : Option (List ℕ)) →
-            admits made found ≡ (admits self found && allows op listed.now found)) }
+            admits made found ≡ (admits self found && op_allows op listed.now found)) }
     {
         let Demand {
             may_be_absent,

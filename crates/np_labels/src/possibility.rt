@@ -4,7 +4,7 @@ ghost use Rattle.std.specs.BTreeMap.{get, IsOrdered};
 ghost use Rattle.std.specs.Ordering.{nat_cmp};
 ghost use Rattle.std.specs.Cmp.Lexicographic.{slice_cmp};
 ghost use Rattle.std.specs.List.{list_all};
-ghost use Rattle.np_labels.specs.Prelude.{admits, admits_unless_free, allowed_at, allows, meets_requirement, value_of};
+ghost use Rattle.np_labels.specs.Prelude.{admits, admits_unless_free, allowed_at, meets_requirement, op_allows, value_of};
 ghost use Rattle.np_labels.specs.declared.pair.Pair.{Pair};
 
 use crate::choice::Choice;
@@ -48,7 +48,7 @@ fn narrow_demand(
     requirement: &Requirement,
 ) -> Result<Demand, NoMemory>
     ensures { IfOk result (λ made. (found : Option (List ℕ)) → admits made found
-        ≡ (admits_unless_free before found && allows requirement.now.op requirement.now.values found)) }
+        ≡ (admits_unless_free before found && op_allows requirement.now.op requirement.now.values found)) }
 {
     let demand = before.unwrap_or(Demand::free(alloc));
     demand.narrow(alloc, requirement.op, requirement.values.items())

@@ -23,7 +23,7 @@ pub struct Requirement {
 impl Requirement {
     ghost use Rattle.std.specs.Prelude.{◌≡◌, List, ℕ, IfOk, not};
     ghost use Rattle.std.specs.Option.{option_map};
-    ghost use Rattle.np_labels.specs.Selectors.{allows, is_listed, label_requirement, meets_requirement, negation_of, requirement_of};
+    ghost use Rattle.np_labels.specs.Selectors.{is_listed, label_requirement, meets_requirement, negation_of, op_allows, requirement_of};
     ghost use Rattle.np_labels.specs.declared.pair.Pair.{Pair};
 
     /// The requirement of a key with these values, in the order of their bytes and each once, however they are given.
@@ -59,7 +59,7 @@ impl Requirement {
 
     // Whether the value that the key has, or that it has none, is as asked.
     fn allows(&self, found: Option<&str>) -> bool
-        ensures { result ≡ allows self.now.op self.now.values (option_map (λ value. value.now) found.entry) }
+        ensures { result ≡ op_allows self.now.op self.now.values (option_map (λ value. value.now) found.entry) }
     {
         match self.op {
             Op::OneOf => found.is_some_and(|value| self.lists(value)),

@@ -37,35 +37,35 @@ none-append (entry ∷ entries) others first second =
 
 -- ---- the parts of a policy
 
-expression-none : (one : Requirement) → HasNone (manifests.expression one)
+expression-none : (one : Requirement) → HasNone (manifests.expression_data one)
 expression-none one = none-some (codes "values") string (λ s. refl) one.values
 
-selector-none : (one : Selector) → HasNone (manifests.selector one)
-selector-none one = none-some (codes "matchExpressions") manifests.expression expression-none one.requirements
+selector-none : (one : Selector) → HasNone (manifests.selector_data one)
+selector-none one = none-some (codes "matchExpressions") manifests.expression_data expression-none one.requirements
 
 end-none : (lo hi : ℕ) → HaveNone (manifests.end_member lo hi)
 end-none lo hi = elim (lo == hi) as (λ b. HaveNone (if b then [] else (codes "endPort", number (unsigned hi)) ∷ [])) [ true ↦ refl | false ↦ refl ]
 
-port-none : (one : NetPort) → HasNone (manifests.port one)
+port-none : (one : NetPort) → HasNone (manifests.port_data one)
 port-none (Span proto lo hi) = none-append (manifests.end_member lo hi) _ (end-none lo hi) refl
 port-none (Named proto name) = refl
 
 peer-none : (one : NetPeer) → HasNone (manifests.peer one)
 peer-none (Pods namespaces pods) =
-    none-append (if_given (codes "namespaceSelector") (option_map manifests.selector namespaces)) (if_given (codes "podSelector") (option_map manifests.selector pods))
-    (none-given (codes "namespaceSelector") manifests.selector selector-none namespaces) (none-given (codes "podSelector") manifests.selector selector-none pods)
-peer-none (Block cidr excepts) = rw (none-some (codes "except") manifests.block (λ c. refl) excepts) refl
+    none-append (if_given (codes "namespaceSelector") (option_map manifests.selector_data namespaces)) (if_given (codes "podSelector") (option_map manifests.selector_data pods))
+    (none-given (codes "namespaceSelector") manifests.selector_data selector-none namespaces) (none-given (codes "podSelector") manifests.selector_data selector-none pods)
+peer-none (Block cidr excepts) = rw (none-some (codes "except") manifests.block_data (λ c. refl) excepts) refl
 
-rule-none : (direction : Direction) (one : NetRule) → HasNone (manifests.rule direction one)
+rule-none : (direction : Direction) (one : NetRule) → HasNone (manifests.rule_data direction one)
 rule-none Ingress one =
-    none-append (if_some (codes "from") (map manifests.peer one.peers)) (if_some (codes "ports") (map manifests.port one.ports))
-    (none-some (codes "from") manifests.peer peer-none one.peers) (none-some (codes "ports") manifests.port port-none one.ports)
+    none-append (if_some (codes "from") (map manifests.peer one.peers)) (if_some (codes "ports") (map manifests.port_data one.ports))
+    (none-some (codes "from") manifests.peer peer-none one.peers) (none-some (codes "ports") manifests.port_data port-none one.ports)
 rule-none Egress one =
-    none-append (if_some (codes "ports") (map manifests.port one.ports)) (if_some (codes "to") (map manifests.peer one.peers))
-    (none-some (codes "ports") manifests.port port-none one.ports) (none-some (codes "to") manifests.peer peer-none one.peers)
+    none-append (if_some (codes "ports") (map manifests.port_data one.ports)) (if_some (codes "to") (map manifests.peer one.peers))
+    (none-some (codes "ports") manifests.port_data port-none one.ports) (none-some (codes "to") manifests.peer peer-none one.peers)
 
 rules-none : (direction : Direction) (all : List NetRule) → HasNone (manifests.rules direction all)
-rules-none direction all = none-map (manifests.rule direction) (rule-none direction) all
+rules-none direction all = none-map (manifests.rule_data direction) (rule-none direction) all
 
 types-none : (ingress egress : Bool) → HasNone (list_with (manifests.type_if ingress (codes "Ingress") ++ manifests.type_if egress (codes "Egress")))
 types-none true true = refl
@@ -77,7 +77,7 @@ spec-none : (one : NetPolicy) → HasNone (manifests.spec one)
 spec-none one =
     let egress = if_given (codes "egress") (option_map (manifests.rules Egress) one.egress) in
     let ingress = if_given (codes "ingress") (option_map (manifests.rules Ingress) one.ingress) in
-    none-append (egress ++ ingress) ((codes "podSelector", manifests.selector one.subject) ∷ (codes "policyTypes", manifests.types one) ∷ [])
+    none-append (egress ++ ingress) ((codes "podSelector", manifests.selector_data one.subject) ∷ (codes "policyTypes", manifests.types one) ∷ [])
     (none-append egress ingress (none-given (codes "egress") (manifests.rules Egress) (rules-none Egress) one.egress)
     (none-given (codes "ingress") (manifests.rules Ingress) (rules-none Ingress) one.ingress))
     (rw (selector-none one.subject, types-none (is_some one.ingress) (is_some one.egress)) refl)

@@ -16,9 +16,9 @@ list_data policies = object_with (
     (codes "apiVersion", string (codes "v1")) ∷ (codes "items", list_with (map policy policies)) ∷ (codes "kind", string (codes "List")) ∷ [])
 
 -- the text of the List of these policies
-unfoldable pub list_text : List NetPolicy → List ℕ
-list_text policies = compact_text (list_data policies)
+unfoldable pub manifest_text : List NetPolicy → List ℕ
+manifest_text policies = compact_text (list_data policies)
 
 -- the text of the List of these policies, and a line feed
 abbrev pub list_line : List NetPolicy → List ℕ
-list_line policies = list_text policies ++ codes "\n"
+list_line policies = manifest_text policies ++ codes "\n"

@@ -18,12 +18,12 @@ operator Present = codes "Exists"
 operator Absent = codes "DoesNotExist"
 
 -- a requirement, with its values where it has some
-abbrev pub expression : Requirement → Data
-expression one = object_with ((codes "key", string one.key) ∷ (codes "operator", string (operator one.op)) ∷ if_some (codes "values") (map string one.values))
+abbrev pub expression_data : Requirement → Data
+expression_data one = object_with ((codes "key", string one.key) ∷ (codes "operator", string (operator one.op)) ∷ if_some (codes "values") (map string one.values))
 
 -- a selector, with its requirements where it has some
-abbrev pub selector : Selector → Data
-selector one = object_with (if_some (codes "matchExpressions") (map expression one.requirements))
+abbrev pub selector_data : Selector → Data
+selector_data one = object_with (if_some (codes "matchExpressions") (map expression_data one.requirements))
 
 -- ---- ports
 
@@ -35,36 +35,36 @@ end_member lo hi = if lo == hi then [] else (codes "endPort", number (unsigned h
 abbrev pub span : Proto → ℕ → ℕ → Data
 span proto lo hi = object_with (end_member lo hi ++ (codes "port", number (unsigned lo)) ∷ (codes "protocol", string (proto_name proto)) ∷ [])
 
-abbrev pub port : NetPort → Data
-port (Span proto lo hi) = span proto lo hi
-port (Named proto name) = object_with ((codes "port", string name) ∷ (codes "protocol", string (proto_name proto)) ∷ [])
+abbrev pub port_data : NetPort → Data
+port_data (Span proto lo hi) = span proto lo hi
+port_data (Named proto name) = object_with ((codes "port", string name) ∷ (codes "protocol", string (proto_name proto)) ∷ [])
 
 -- ---- peers
 
-abbrev pub block : Cidr → Data
-block cidr = string (cidr_text cidr)
+abbrev pub block_data : Cidr → Data
+block_data cidr = string (cidr_text cidr)
 
 -- a block, with its exceptions where it has some
-abbrev pub ip_block : Cidr → List Cidr → Data
-ip_block cidr excepts = object_with ((codes "cidr", block cidr) ∷ if_some (codes "except") (map block excepts))
+abbrev pub ip_block_data : Cidr → List Cidr → Data
+ip_block_data cidr excepts = object_with ((codes "cidr", block_data cidr) ∷ if_some (codes "except") (map block_data excepts))
 
 -- pods, with each selector that is there
 abbrev pub pods : Option Selector → Option Selector → Data
-pods of_namespaces of_pods = object_with (if_given (codes "namespaceSelector") (option_map selector of_namespaces) ++ if_given (codes "podSelector") (option_map selector of_pods))
+pods of_namespaces of_pods = object_with (if_given (codes "namespaceSelector") (option_map selector_data of_namespaces) ++ if_given (codes "podSelector") (option_map selector_data of_pods))
 
 abbrev pub peer : NetPeer → Data
 peer (Pods of_namespaces of_pods) = pods of_namespaces of_pods
-peer (Block cidr excepts) = object_with ((codes "ipBlock", ip_block cidr excepts) ∷ [])
+peer (Block cidr excepts) = object_with ((codes "ipBlock", ip_block_data cidr excepts) ∷ [])
 
 -- ---- rules
 
 -- a rule, with its peers and its ports where it has some
-abbrev pub rule : Direction → NetRule → Data
-rule Ingress one = object_with (if_some (codes "from") (map peer one.peers) ++ if_some (codes "ports") (map port one.ports))
-rule Egress one = object_with (if_some (codes "ports") (map port one.ports) ++ if_some (codes "to") (map peer one.peers))
+abbrev pub rule_data : Direction → NetRule → Data
+rule_data Ingress one = object_with (if_some (codes "from") (map peer one.peers) ++ if_some (codes "ports") (map port_data one.ports))
+rule_data Egress one = object_with (if_some (codes "ports") (map port_data one.ports) ++ if_some (codes "to") (map peer one.peers))
 
 abbrev pub rules : Direction → List NetRule → Data
-rules direction all = list_with (map (rule direction) all)
+rules direction all = list_with (map (rule_data direction) all)
 
 -- ---- policies
 
@@ -79,16 +79,16 @@ types one = list_with (type_if (is_some one.ingress) (codes "Ingress") ++ type_i
 abbrev pub spec : NetPolicy → Data
 spec one = object_with (
     if_given (codes "egress") (option_map (rules Egress) one.egress) ++ if_given (codes "ingress") (option_map (rules Ingress) one.ingress)
-    ++ (codes "podSelector", selector one.subject) ∷ (codes "policyTypes", types one) ∷ [])
+    ++ (codes "podSelector", selector_data one.subject) ∷ (codes "policyTypes", types one) ∷ [])
 
 abbrev pub metadata : NetPolicy → Data
 metadata one = object_with ((codes "name", string one.name) ∷ (codes "namespace", string one.namespace) ∷ [])
 
 -- the object of some metadata and a spec
-abbrev pub object_of : Data → Data → Data
-object_of of_metadata of_spec = object_with (
+abbrev pub object_data : Data → Data → Data
+object_data of_metadata of_spec = object_with (
     (codes "apiVersion", string (codes "networking.k8s.io/v1")) ∷ (codes "kind", string (codes "NetworkPolicy"))
     ∷ (codes "metadata", of_metadata) ∷ (codes "spec", of_spec) ∷ [])
 
 abbrev pub policy : NetPolicy → Data
-policy one = object_of (metadata one) (spec one)
+policy one = object_data (metadata one) (spec one)

@@ -47,7 +47,7 @@ fn pods_value(
 
 // A selector that may be missing.
 fn selector_value(alloc: Global, selector: Option<&Selector>) -> Result<Option<Value>, NoMemory>
-    ensures { IfOk result (λ value. option_map view value ≡ option_map manifests.selector (option_copied selector.entry)) }
+    ensures { IfOk result (λ value. option_map view value ≡ option_map manifests.selector_data (option_copied selector.entry)) }
 {
     match selector {
         Some(selector) => Ok(Some(selector.value(alloc)?)),
@@ -57,7 +57,7 @@ fn selector_value(alloc: Global, selector: Option<&Selector>) -> Result<Option<V
 
 // A block of addresses without some of its parts.
 fn block_value(alloc: Global, cidr: &Cidr, excepts: &[Cidr]) -> Result<Value, NoMemory>
-    ensures { IfOk result (λ value. view value ≡ manifests.ip_block cidr.now excepts.now) }
+    ensures { IfOk result (λ value. view value ≡ manifests.ip_block_data cidr.now excepts.now) }
 {
     let excepts = each_value(alloc, excepts)?;
     let mut members = Map::new(alloc);

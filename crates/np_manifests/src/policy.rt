@@ -35,7 +35,7 @@ fn policy_value(alloc: Global, policy: &NetPolicy) -> Result<Value, NoMemory>
 
 // The object of its metadata and its spec.
 fn object_of(alloc: Global, metadata: Value, spec: Value) -> Result<Value, AllocError>
-    ensures { IfOk result (λ value. view value ≡ manifests.object_of (view metadata) (view spec)) }
+    ensures { IfOk result (λ value. view value ≡ manifests.object_data (view metadata) (view spec)) }
 {
     json!(in alloc; {
         "apiVersion": "networking.k8s.io/v1", "kind": "NetworkPolicy", "metadata": metadata, "spec": spec

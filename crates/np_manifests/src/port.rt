@@ -12,7 +12,7 @@ use serde_json::{Value, json};
 use std::alloc::Global;
 
 impl Manifest for NetPort {
-    ghost json = { manifests.port };
+    ghost json = { manifests.port_data };
 
     fn value(&self, alloc: Global) -> Result<Value, NoMemory> {
         match self {

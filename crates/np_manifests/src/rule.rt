@@ -28,7 +28,7 @@ pub(crate) fn rules_value(
 
 // A rule: its peers and its ports, each where it has some.
 fn rule_value(alloc: Global, direction: Direction, rule: &NetRule) -> Result<Value, NoMemory>
-    ensures { IfOk result (λ value. view value ≡ manifests.rule direction rule.now) }
+    ensures { IfOk result (λ value. view value ≡ manifests.rule_data direction rule.now) }
 {
     let peers = each_value(alloc, rule.peers.items())?;
     let ports = each_value(alloc, rule.ports.items())?;

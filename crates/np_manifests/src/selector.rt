@@ -11,7 +11,7 @@ use serde_json::{Map, Value, put};
 use std::alloc::Global;
 
 impl Manifest for Selector {
-    ghost json = { manifests.selector };
+    ghost json = { manifests.selector_data };
 
     fn value(&self, alloc: Global) -> Result<Value, NoMemory> {
         let expressions = each_value(alloc, self.requirements.items())?;
@@ -22,7 +22,7 @@ impl Manifest for Selector {
 }
 
 impl Manifest for Requirement {
-    ghost json = { manifests.expression };
+    ghost json = { manifests.expression_data };
 
     fn value(&self, alloc: Global) -> Result<Value, NoMemory> {
         let operator = Value::try_from_str(alloc, operator(self.op))?;

@@ -16,7 +16,7 @@ use Rattle.np_meaning.proofs.PeersMeaning.{blocks_of-each_item, not_there}
 use Rattle.np_meaning.proofs.PortsMeaning.{protocol-output}
 use Rattle.np_policies.proofs.ReadLemmas.{bind-output, then-output, required-output, listed-output, or_refuse-output}
 use Rattle.np_policies.proofs.WellLemmas.{unbroken-output, unbroken_member-output}
-use Rattle.np_policies.specs.Prelude.{action, action_named, admin_peer, admin_peers, admin_policy, admin_port, admin_port_member, admin_rule, admin_rules, admin_spec, all_pods, base_name, base_policy, base_spec, cidr, egress_member, egress_peer, everything, ingress_peer, items_at, named_port, namespace_selector, networks, object_name, one_port, pods_member, policy_of, port_name, port_range, priority, priority_number, protocol, selector, some_pods, subject}
+use Rattle.np_policies.specs.Prelude.{action, action_named, admin_peer, admin_peers, admin_policy, admin_port, admin_port_member, admin_rule, admin_rules, admin_spec, all_pods, base_name, base_policy, base_spec, cidr, container_port_name, egress_member, egress_peer, everything, ingress_peer, items_at, named_port, namespace_selector, networks, object_name, one_port, pods_member, policy_of, port_range, priority, priority_number, protocol, selector, some_pods, subject}
 use Rattle.np_meaning.specs.PolicyMeaning.{AreEach}
 use Rattle.np_model.specs.declared.admin_policy.AdminPeer.TheVariants as peer
 use Rattle.np_policies.specs.declared.admin_rule_shape.AdminKind.TheVariants as tier
@@ -149,8 +149,8 @@ port_range-output value read is =
     let to = number_at-output port port-whole (codes "end") value last.first last.here in
     rw (← made) (protocol-output value proto.first proto.here, from, to)
 
-port_name-output : (value : Data) (s : List ℕ) → port_name value ≡ Ok s → as_str value ≡ Some s
-unfolding port_name
+port_name-output : (value : Data) (s : List ℕ) → container_port_name value ≡ Ok s → as_str value ≡ Some s
+unfolding container_port_name
 port_name-output value s is =
     let read = bind-output (text value) _ s is in
     let some = then-output (refuse_if (length read.first == 0) BadPort) (refuse_if (not (is_word read.first)) BadField >> Ok read.first) s read.after in
@@ -161,7 +161,7 @@ port_name-output value s is =
 named_port-output : (value : Data) (read : AdminPort) → named_port value ≡ Ok read → IsPortBy None None (Some value) read
 unfolding named_port
 named_port-output value read is =
-    let name = bind-output (port_name value) (λ name. Ok (Named name)) read is in
+    let name = bind-output (container_port_name value) (λ name. Ok (Named name)) read is in
     let made : Named name.first ≡ read = let after = name.after in cc in
     rw (← made) (port_name-output value name.first name.here)
 

@@ -10,13 +10,13 @@ use Rattle.std.proofs.lemmas.List.{reverse-append}
 use Rattle.std.proofs.lemmas.List.Folds.{find_at}
 use Rattle.std.proofs.lemmas.List.Quantifiers.{position-Some}
 use Rattle.std.proofs.lemmas.Option.{option_and_then_some, slice_get-get_or, slice_get-map, slice_get_past}
-use Rattle.np_owners.specs.Prelude.{by_name, by_reference, chain, controller_place, is_named, last_of, last_owner, makes_pod, name_of, owner_of, owner_place, place_in_namespace, place_of, same_name, top, top_owner, up, ups}
+use Rattle.np_owners.specs.Prelude.{by_reference, chain, controller_place, is_item_named, last_of, last_owner, makes_pod, name_of_item, owner_named, owner_of_item, owner_place, place_in_namespace, place_of, same_name, top, top_owner, up, ups}
 use Rattle.np_reading.proofs.LawfulNamespaces.{value_of-namespace_labels, HasNamespaceLabels}
 use Rattle.np_reading.proofs.LawfulReading.{pods_have_namespace_labels}
 use Rattle.np_reading.proofs.ReadingLemmas.{estate_of-passed}
 use Rattle.np_meaning.specs.EachPod.{AreEach}
 use Rattle.np_meaning.specs.Prelude.{ControllerItem, ControllerKind, CronJob, DaemonSet, Deployment, EstateLists, HoldsEachPod, IsListedPod, IsMadePod, Item, Job, NamespaceItem, ObjectName, OwnerRef, Pair, Pod, PodItem, ReplicaSet, ReplicationController, SaysNamespace, StatefulSet, Template, namespace_named, pod, takes_part, templated, templates_from}
-use Rattle.np_reading.specs.Prelude.{context, context_of, end_of, estate_of, is_on_host, labels_in, listed_labels, made_pod, name_label, namespace_labels, namespace_name, pod_at_item, pods_from, pods_of}
+use Rattle.np_reading.specs.Prelude.{context, context_of, estate_of, is_on_host, labels_in, listed_labels, made_pod, name_label, namespace_labels, namespace_name, pod_at_item, pod_of_item, pods_from, pods_of}
 use Rattle.np_items.specs.Prelude.{items_of}
 use Rattle.np_items.specs.declared.item.Item.TheVariants as item
 use Rattle.np_labels.proofs.PairLists.{value_of-labels_of}
@@ -32,10 +32,10 @@ use Rattle.np_policies.specs.declared.policy.Policy.TheVariants as policy
 abbrev names_one : List Item → ℕ → Bool
 names_one items place = is_some (option_and_then last_owner (slice_get items place))
 
-named-last : (name : ObjectName) (one : Item) → is_named name one ≡ true → is_some (last_owner one) ≡ true
-named-last name one is = by (owner_of one) (name_of one) is
+named-last : (name : ObjectName) (one : Item) → is_item_named name one ≡ true → is_some (last_owner one) ≡ true
+named-last name one is = by (owner_of_item one) (name_of_item one) is
   where
-    by : (owner : Option OwnerRef) (own : Option ObjectName) → option_map_or (same_name name) own false ≡ true → is_some (option_or (option_map by_reference owner) (option_map by_name own)) ≡ true
+    by : (owner : Option OwnerRef) (own : Option ObjectName) → option_map_or (same_name name) own false ≡ true → is_some (option_or (option_map by_reference owner) (option_map owner_named own)) ≡ true
     by (Some owner) own is = refl
     by None None is = cc
     by None (Some own) is = refl
@@ -43,13 +43,13 @@ named-last name one is = by (owner_of one) (name_of one) is
 placed-names_one : (items : List Item) (name : ObjectName) (place : ℕ) → place_of items name ≡ Some place → names_one items place ≡ true
 placed-names_one [] name place is = cc
 placed-names_one (one ∷ items) name place is =
-    let found = position-Some (is_named name) (one ∷ items) place one is in
+    let found = position-Some (is_item_named name) (one ∷ items) place one is in
     rw (slice_get-get_or (one ∷ items) place one found.0) (named-last name (get_or (one ∷ items) place one) found.1)
 
 owner-names_one : (items : List Item) (one : Item) (above : ℕ) → owner_place items one ≡ Some above → names_one items above ≡ true
 owner-names_one items one above is =
-    option_and_then_some (place_in_namespace items (owner_of one)) (name_of one) above is
-    (λ name named found. option_and_then_some (controller_place items name.namespace) (owner_of one) above found
+    option_and_then_some (place_in_namespace items (owner_of_item one)) (name_of_item one) above is
+    (λ name named found. option_and_then_some (controller_place items name.namespace) (owner_of_item one) above found
     (λ owner owned at. by name.namespace owner (is_controller_kind owner.kind) at))
   where
     by : (space : List ℕ) (owner : OwnerRef) (b : Bool) → cond b (place_of items (record { kind = owner.kind; namespace = space; name = owner.name })) None ≡ Some above → names_one items above ≡ true
@@ -106,19 +106,19 @@ module _ (items : List Item) (place : ℕ) where
       Fits (taken (Some one)) (cond (makes_pod items place) None None) (pod_at_item items place (item.Object (object.Pod one)))
   pod-fits one at =
       let owner = top_owner-there items place (item.Object (object.Pod one)) at (itself one.owner) in
-      let given : Option Owner → Option Pod = λ top. option_and_then (end_of (item.Object (object.Pod one)))
+      let given : Option Owner → Option Pod = λ top. option_and_then (pod_of_item (item.Object (object.Pod one)))
       (cond (not (one.host_network || one.finished)) (context_of items (item.Object (object.Pod one)) top) None) in
       subst (λ (top : Option Owner). Fits (taken (Some one)) (cond (makes_pod items place) None None) (given top)) (sym owner.1)
       (by (namespace_labels items one.namespace) owner.0 one.host_network one.finished (makes_pod items place))
     where
       itself : (owner : Option OwnerRef) → is_some (option_or (option_map by_reference owner)
-          (option_map by_name (Some (record { kind = codes "Pod"; namespace = one.namespace; name = one.name })))) ≡ true
+          (option_map owner_named (Some (record { kind = codes "Pod"; namespace = one.namespace; name = one.name })))) ≡ true
       itself None = refl
       itself (Some owner) = refl
 
       by : (around : List Pair) (top : Owner) (host finished makes : Bool) →
           Fits (cond (not host && not finished) (Some one) None) (cond makes None None)
-          (option_and_then (end_of (item.Object (object.Pod one))) (cond (not (host || finished)) (Some (context around top)) None))
+          (option_and_then (pod_of_item (item.Object (object.Pod one))) (cond (not (host || finished)) (Some (context around top)) None))
       by around top true finished makes = nothing makes
       by around top false true makes = nothing makes
       by around top false false true = (record { namespace = refl; name = refl; labels = refl; ports = refl; addresses = refl }, refl)
@@ -128,13 +128,13 @@ module _ (items : List Item) (place : ℕ) where
       Fits None (cond (makes_pod items place) (templated (item.Object (object.Controller one))) None) (pod_at_item items place (item.Object (object.Controller one)))
   controller-fits one at =
       let owner = top_owner-there items place (item.Object (object.Controller one)) at (itself one.owner) in
-      let given : Option Owner → Option Pod = λ top. option_and_then (end_of (item.Object (object.Controller one)))
+      let given : Option Owner → Option Pod = λ top. option_and_then (pod_of_item (item.Object (object.Controller one)))
       (cond (makes_pod items place && not (is_on_host one)) (context_of items (item.Object (object.Controller one)) top) None) in
       subst (λ (top : Option Owner). Fits None (cond (makes_pod items place) (templated (item.Object (object.Controller one))) None) (given top)) (sym owner.1)
       (by (namespace_labels items one.namespace) owner.0 (makes_pod items place) one.template)
     where
       itself : (owner : Option OwnerRef) → is_some (option_or (option_map by_reference owner)
-          (option_map by_name (Some (record { kind = kind_name one.kind; namespace = one.namespace; name = one.name })))) ≡ true
+          (option_map owner_named (Some (record { kind = kind_name one.kind; namespace = one.namespace; name = one.name })))) ≡ true
       itself None = refl
       itself (Some owner) = refl
 
@@ -231,12 +231,12 @@ no_namespace ReplicationController = refl
 no_namespace Job = refl
 no_namespace CronJob = refl
 
-labels_in-found : (name : List ℕ) (items : List Item) → labels_in (find (is_named (namespace_name name)) items) ≡ labels_found (namespace_named items name)
+labels_in-found : (name : List ℕ) (items : List Item) → labels_in (find (is_item_named (namespace_name name)) items) ≡ labels_found (namespace_named items name)
 labels_in-found name [] = refl
 labels_in-found name (item.Object (object.Namespace one) ∷ rest) = by (bytes_eq name one.name) (labels_in-found name rest)
   where
-    by : (b : Bool) → labels_in (find (is_named (namespace_name name)) rest) ≡ labels_found (namespace_named rest name) →
-        labels_in (cond b (Some (item.Object (object.Namespace one))) (find (is_named (namespace_name name)) rest)) ≡ labels_found (cond b (Some one) (namespace_named rest name))
+    by : (b : Bool) → labels_in (find (is_item_named (namespace_name name)) rest) ≡ labels_found (namespace_named rest name) →
+        labels_in (cond b (Some (item.Object (object.Namespace one))) (find (is_item_named (namespace_name name)) rest)) ≡ labels_found (cond b (Some one) (namespace_named rest name))
     by true others = refl
     by false others = others
 labels_in-found name (item.Object (object.Pod one) ∷ rest) = labels_in-found name rest
@@ -249,7 +249,7 @@ labels_in-found name (item.Policy (policy.Admin one) ∷ rest) = labels_in-found
 labels_in-found name (item.Policy (policy.Base one) ∷ rest) = labels_in-found name rest
 
 listed_labels-found : (items : List Item) (name : List ℕ) → listed_labels items name ≡ labels_found (namespace_named items name)
-listed_labels-found items name = ap labels_in (found_at (is_named (namespace_name name)) items) ∙ labels_in-found name items
+listed_labels-found items name = ap labels_in (found_at (is_item_named (namespace_name name)) items) ∙ labels_in-found name items
 
 other_label : (items : List Item) (name key : List ℕ) → key ≢ codes "kubernetes.io/metadata.name" →
     value_of (namespace_labels items name) key ≡ option_and_then (λ one. last_value_of one.labels key) (namespace_named items name)

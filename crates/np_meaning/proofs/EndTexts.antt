@@ -8,8 +8,8 @@ use Rattle.np_addr.specs.declared.address.Family.TheVariants as family
 use Rattle.np_addr.specs.Prelude.{address_text, cidr_text}
 use Rattle.np_addr.proofs.PieceLemmas.{IsOther}
 use Rattle.np_fold.specs.Prelude.{folding_of, owner_name}
-use Rattle.np_report.specs.Prelude.{blocks_of, end_text, ends_text, names_of, span_text}
-use Rattle.np_kinds.specs.Prelude.{address_of}
+use Rattle.np_report.specs.Prelude.{blocks_of, ends_text, names_of, row_end_text, span_text}
+use Rattle.np_kinds.specs.Prelude.{address_numbered}
 use Rattle.np_table.specs.declared.rows.AddressSpan.TheVariants as span
 use Rattle.np_meaning.proofs.AddressBytes.{IsForeign, address-lacks, block-lacks}
 use Rattle.np_meaning.proofs.NameTexts.{name-within, names-all, one-name}
@@ -50,10 +50,10 @@ module _ (byte : ℕ) (none : IsNoSpanByte byte) where
   ends-lack family range of = by (range.lo == range.hi)
     where
       low : List ℕ
-      low = address_text (address_of family range.lo)
+      low = address_text (address_numbered family range.lo)
 
       high : List ℕ
-      high = address_text (address_of family range.hi)
+      high = address_text (address_numbered family range.hi)
 
       in_low : All (IsOther byte) low
       in_low = address-lacks byte none.foreign _ (low-fits family range of)
@@ -102,7 +102,7 @@ has-more wish more has = (has.0, has.1 ++ more, ap (λ (text : List ℕ). text +
 
 module _ (lists : EstateLists) (report : Report) where
   abbrev text : RowEnd → List ℕ
-  text end = end_text (names_of (folding_of lists)) report end
+  text end = row_end_text (names_of (folding_of lists)) report end
 
   name-has : (number : ℕ) → number < length (folding_of lists).workloads → Has 91 (text (Work number))
   name-has number within =
@@ -129,5 +129,5 @@ module _ (lists : EstateLists) (report : Report) where
   ends-apart few Controller Controller is_a is_b same = refl
 
 pub one-end : (lists : EstateLists) (report : Report) (a b : RowEnd) → IsFew lists → IsEndOf lists a → IsEndOf lists b
-    → end_text (names_of (folding_of lists)) report a ≡ end_text (names_of (folding_of lists)) report b → a ≡ b
+    → row_end_text (names_of (folding_of lists)) report a ≡ row_end_text (names_of (folding_of lists)) report b → a ≡ b
 one-end lists report a b few is_a is_b same = ends-apart lists report few a b is_a is_b same

@@ -10,7 +10,7 @@ use Rattle.np_meaning.proofs.Outputs.{optional-output, each-output, number_at-re
 use Rattle.np_meaning.proofs.MemberReads.{text_at-output, object_at-output}
 use Rattle.np_policies.proofs.ReadLemmas.{bind-output, then-output}
 use Rattle.np_meaning.proofs.PodMeant.{AreEach-append, AreEach-flat_map}
-use Rattle.np_objects.specs.Prelude.{backend, backend_port, backend_service, http, ingress, ingress_item, ingress_spec, is_named, is_numbered, is_one, number_or_name, path, rule}
+use Rattle.np_objects.specs.Prelude.{backend, backend_port, backend_service, has_a_name, http, ingress, ingress_item, ingress_spec, is_numbered, is_one, number_or_name, path, rule}
 use Rattle.np_meaning.specs.EachPod.{AreEach}
 
 -- ---- backends
@@ -19,7 +19,7 @@ backend_port-meant : (value : Data) (read : PortName) → backend_port value ≡
 unfolding backend_port
 backend_port-meant value read is =
     let past = then-output (must_be_object value) _ read is in
-    let shaped = then-output (refuse_if (not (is_one (is_numbered (whole_of (codes "number") value)) (is_named (text_of (codes "name") value)))) BadField)
+    let shaped = then-output (refuse_if (not (is_one (is_numbered (whole_of (codes "number") value)) (has_a_name (text_of (codes "name") value)))) BadField)
     (number_or_name (is_numbered (whole_of (codes "number") value)) value) read past in
     by (is_numbered (whole_of (codes "number") value)) shaped
   where

@@ -11,7 +11,7 @@ use Rattle.np_meaning.proofs.ControllerMeant.{controller-meant}
 use Rattle.np_meaning.proofs.Outputs.{text-output}
 use Rattle.np_meaning.proofs.MemberReads.{text_at-output}
 use Rattle.np_meaning.specs.Prelude.{ControllerItem, ControllerKind, CronJob, DaemonSet, Deployment, IsOfItsKind, IsOfKind, Job, Object, ReplicaSet, ReplicationController, StatefulSet, version_of}
-use Rattle.np_objects.specs.Prelude.{controller, ingress, kind_name, kinds_of, namespace, object_by, object_of, pod, service}
+use Rattle.np_objects.specs.Prelude.{controller, ingress, kind_name, kinds_of, namespace_object, object_by, object_of, pod, service}
 use Rattle.np_objects.specs.declared.object.Object.TheVariants as object
 use Rattle.np_policies.proofs.ReadLemmas.{bind-output, then-output}
 
@@ -81,7 +81,7 @@ module _ (value : Data) (meta : TypeMeta) (names : IsOfKind meta.api_version met
   as_namespace : bytes_eq meta.api_version (codes "v1") ≡ true → bytes_eq meta.kind (codes "Pod") ≡ false → (here : Bool) → bytes_eq meta.kind (codes "Namespace") ≡ here → IsOfItsKind value read
   unfolding object_by
   as_namespace core no_pod true kind =
-      taken value (namespace value) object.Namespace read (λ item found. (called meta.api_version meta.kind (codes "v1") (codes "Namespace") value names core kind, found))
+      taken value (namespace_object value) object.Namespace read (λ item found. (called meta.api_version meta.kind (codes "v1") (codes "Namespace") value names core kind, found))
       (rw (core, no_pod, kind) at is)
   as_namespace core no_pod false kind =
       as_service core no_pod kind (bytes_eq meta.kind (codes "Service")) refl

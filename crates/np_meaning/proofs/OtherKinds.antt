@@ -8,13 +8,13 @@ use Rattle.np_json.specs.Prelude.{refuse, type_meta}
 use Rattle.np_meaning.specs.Prelude.{Admin, Base, Field, Foreign, ForeignPolicy, Net, NoPolicy, TypeMeta}
 use Rattle.np_json.proofs.ReadLemmas.{under-output}
 use Rattle.np_policies.proofs.ReadLemmas.{bind-output}
-use Rattle.np_policies.specs.Prelude.{admin_policy, base_policy, is_network_policy, is_of, net_policy, policy_by, policy_kind, policy_of}
+use Rattle.np_policies.specs.Prelude.{admin_policy, base_policy, is_network_policy, is_of_type, net_policy, policy_by, policy_kind, policy_of}
 
 -- an object whose kind is no network policy is of no kind that is one
-not_of : (version kind : List ℕ) (meta : TypeMeta) → is_network_policy kind ≡ true → is_network_policy meta.kind ≡ false → is_of version kind meta ≡ false
+not_of : (version kind : List ℕ) (meta : TypeMeta) → is_network_policy kind ≡ true → is_network_policy meta.kind ≡ false → is_of_type version kind meta ≡ false
 not_of version kind meta ends is = by (bytes_eq meta.kind kind) refl
   where
-    by : (b : Bool) → bytes_eq meta.kind kind ≡ b → is_of version kind meta ≡ false
+    by : (b : Bool) → bytes_eq meta.kind kind ≡ b → is_of_type version kind meta ≡ false
     by true same =
         let kinds : meta.kind ≡ kind = (bytes_decides meta.kind kind).0 same in
         let tests = ap is_network_policy kinds in
@@ -38,9 +38,9 @@ other_kind value is =
       meta,
       read.here,
       by
-          (is_of (codes "networking.k8s.io/v1") (codes "NetworkPolicy") meta)
-          (is_of (codes "policy.networking.k8s.io/v1alpha1") (codes "AdminNetworkPolicy") meta)
-          (is_of (codes "policy.networking.k8s.io/v1alpha1") (codes "BaselineAdminNetworkPolicy") meta)
+          (is_of_type (codes "networking.k8s.io/v1") (codes "NetworkPolicy") meta)
+          (is_of_type (codes "policy.networking.k8s.io/v1alpha1") (codes "AdminNetworkPolicy") meta)
+          (is_of_type (codes "policy.networking.k8s.io/v1alpha1") (codes "BaselineAdminNetworkPolicy") meta)
           (is_network_policy meta.kind) read.after,
     )
   where

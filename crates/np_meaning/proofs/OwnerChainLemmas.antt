@@ -12,7 +12,7 @@ use Rattle.std.proofs.lemmas.Bool.{eqb-true, false≢true, true≢false}
 use Rattle.std.proofs.lemmas.List.Folds.{list_any-append}
 use Rattle.std.proofs.lemmas.List.Quantifiers.{position-Some}
 use Rattle.std.proofs.lemmas.Option.{none-some, option_and_then_some, same_Some, slice_get-get_or, slice_get-map, slice_get_within}
-use Rattle.np_owners.specs.Prelude.{IsChains, chain, controller_place, first_cycle, is_named, last_of, name_of, owner_of, owner_place, owners, place_in_namespace, place_of, same_name, top, up, ups}
+use Rattle.np_owners.specs.Prelude.{IsChains, chain, controller_place, first_cycle, is_item_named, last_of, name_of_item, owner_of_item, owner_place, owners, place_in_namespace, place_of, same_name, top, up, ups}
 use Rattle.np_owners.proofs.Ends.{up-top}
 use Rattle.np_owners.proofs.Walks.{chain_none}
 use Rattle.np_meaning.specs.Prelude.{ControllerItem, IsChainOfOwners, IsInChain, IsNamedIn, Item, ObjectName, OwnerRef, Owns, controller_item}
@@ -49,24 +49,24 @@ same_name-itself name =
     rw (itself name.kind, itself name.namespace, itself name.name) refl
 
 -- an item of another name
-is_named-apart : (name : ObjectName) (one other : Item) → AreNamedApart one other → name_of other ≡ Some name → is_named name one ≡ false
-is_named-apart name one other apart named = by (name_of one) refl
+is_named-apart : (name : ObjectName) (one other : Item) → AreNamedApart one other → name_of_item other ≡ Some name → is_item_named name one ≡ false
+is_named-apart name one other apart named = by (name_of_item one) refl
   where
-    by : (own : Option ObjectName) → name_of one ≡ own → option_map_or (same_name name) own false ≡ false
+    by : (own : Option ObjectName) → name_of_item one ≡ own → option_map_or (same_name name) own false ≡ false
     by None is = refl
     by (Some own) is = same_name-sym name own ∙ apart own name is named
 
-position-named : (name : ObjectName) (items : List Item) → AllLater AreNamedApart items → (place : ℕ) (one : Item) → slice_get items place ≡ Some one → name_of one ≡ Some name →
-    position_or_len (is_named name) items ≡ place
+position-named : (name : ObjectName) (items : List Item) → AllLater AreNamedApart items → (place : ℕ) (one : Item) → slice_get items place ≡ Some one → name_of_item one ≡ Some name →
+    position_or_len (is_item_named name) items ≡ place
 position-named name [] apart place one at named = absurd (none-some one at)
 position-named name (first ∷ items) apart zero one at named =
-    let same : name_of first ≡ Some name = ap name_of (same_Some first one at) ∙ named in
+    let same : name_of_item first ≡ Some name = ap name_of_item (same_Some first one at) ∙ named in
     rw (same, same_name-itself name) refl
 position-named name (first ∷ items) apart (suc place) one at named =
     let rest = position-named name items apart.1 place one at named in
     rw (is_named-apart name first one (all-at (AreNamedApart first) items apart.0 place one at) named) (omega (arith, rest))
 
-place_of-named : (name : ObjectName) (items : List Item) → AllLater AreNamedApart items → (place : ℕ) (one : Item) → slice_get items place ≡ Some one → name_of one ≡ Some name →
+place_of-named : (name : ObjectName) (items : List Item) → AllLater AreNamedApart items → (place : ℕ) (one : Item) → slice_get items place ≡ Some one → name_of_item one ≡ Some name →
     place_of items name ≡ Some place
 place_of-named name items apart place one at named =
     rw (position-named name items apart place one at named, lt-ltb place (length items) (slice_get_within items place one at)) refl
@@ -81,7 +81,7 @@ other-kind own name other same kind =
     true≢false (sym kind ∙ sym (ap (λ (n : ObjectName). is_controller_kind n.kind) (same_Some own name same)) ∙ other)
 
 -- what has the name of a controller is one
-named-controller : (one : Item) (name : ObjectName) → name_of one ≡ Some name → is_controller_kind name.kind ≡ true →
+named-controller : (one : Item) (name : ObjectName) → name_of_item one ≡ Some name → is_controller_kind name.kind ≡ true →
     (controller : ControllerItem) × (one ≡ controller_item controller) × (controller_name controller ≡ name)
 named-controller (item.Object (object.Controller controller)) name named kind = (controller, refl, same_Some (controller_name controller) name named)
 named-controller (item.Object (object.Pod one)) name named kind = absurd (other-kind _ name refl named kind)
@@ -93,8 +93,8 @@ named-controller (item.Policy (policy.Net one)) name named kind = absurd (other-
 named-controller (item.Policy (policy.Admin one)) name named kind = absurd (other-kind _ name refl named kind)
 named-controller (item.Policy (policy.Base one)) name named kind = absurd (other-kind _ name refl named kind)
 
-is_named-name : (name : ObjectName) (one : Item) → is_named name one ≡ true → name_of one ≡ Some name
-is_named-name name one is = by (name_of one) is
+is_named-name : (name : ObjectName) (one : Item) → is_item_named name one ≡ true → name_of_item one ≡ Some name
+is_named-name name one is = by (name_of_item one) is
   where
     by : (own : Option ObjectName) → option_map_or (same_name name) own false ≡ true → own ≡ Some name
     by None found = absurd (false≢true found)
@@ -111,7 +111,7 @@ named-by controller owner around namespace same here = record {
   name = ap (λ (n : ObjectName). n.name) same;
 }
 
-named-owns : (one : Item) (controller : ControllerItem) (name : ObjectName) (owner : OwnerRef) → name_of one ≡ Some name → owner_of one ≡ Some owner →
+named-owns : (one : Item) (controller : ControllerItem) (name : ObjectName) (owner : OwnerRef) → name_of_item one ≡ Some name → owner_of_item one ≡ Some owner →
     controller_name controller ≡ asked name.namespace owner → Owns controller one
 named-owns (item.Object (object.Pod one)) controller name owner named owned same =
     let own = same_Some _ name named in
@@ -136,15 +136,15 @@ pub record OwnerAt (items : List Item) (one : Item) (above : ℕ) : Type 0 where
 -- what stands over an item owns it
 pub owner-found : (items : List Item) (one : Item) (above : ℕ) → owner_place items one ≡ Some above → OwnerAt items one above
 owner-found items one above is =
-    option_and_then_some (place_in_namespace items (owner_of one)) (name_of one) above is
-    (λ name named found. option_and_then_some (controller_place items name.namespace) (owner_of one) above found
+    option_and_then_some (place_in_namespace items (owner_of_item one)) (name_of_item one) above is
+    (λ name named found. option_and_then_some (controller_place items name.namespace) (owner_of_item one) above found
     (λ owner owned at. by name owner named owned (is_controller_kind owner.kind) refl at))
   where
-    by : (name : ObjectName) (owner : OwnerRef) → name_of one ≡ Some name → owner_of one ≡ Some owner → (b : Bool) → is_controller_kind owner.kind ≡ b →
+    by : (name : ObjectName) (owner : OwnerRef) → name_of_item one ≡ Some name → owner_of_item one ≡ Some owner → (b : Bool) → is_controller_kind owner.kind ≡ b →
         cond b (place_of items (asked name.namespace owner)) None ≡ Some above → OwnerAt items one above
     by name owner named owned false kind at = absurd (none-some above at)
     by name owner named owned true kind at =
-        let found = position-Some (is_named (asked name.namespace owner)) items above one at in
+        let found = position-Some (is_item_named (asked name.namespace owner)) items above one at in
         let there = slice_get-get_or items above one found.0 in
         let controller = named-controller (get_or items above one) (asked name.namespace owner) (is_named-name (asked name.namespace owner) (get_or items above one) found.1) kind in
         record { owner = controller.0; at = there ∙ ap Some controller.1; owns = named-owns one controller.0 name owner named owned controller.2 }

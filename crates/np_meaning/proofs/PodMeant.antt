@@ -16,7 +16,7 @@ use Rattle.np_meaning.proofs.MetaMeant.{labels-meant, namespaced_name-meant, IsO
 use Rattle.np_meaning.proofs.Outputs.{OutputOf, optional-output, each-output, number_at-required, is_true_at-optional, text_at-optional, IsOptional, text-output}
 use Rattle.np_meaning.proofs.MemberReads.{text_at-output, word-output, object_at-output, name-output}
 use Rattle.np_policies.proofs.ReadLemmas.{bind-output, then-output}
-use Rattle.np_objects.specs.Prelude.{address, address_by, container, container_port, distinct, has_address, if_named, is_finished, is_same, kept_with, label_map, namespace, namespace_metadata, no_status, owner_reference, pod, pod_ip, pod_item, pod_metadata, pod_spec, pod_status, port_name, unless_empty}
+use Rattle.np_objects.specs.Prelude.{address, address_by, container, container_port, distinct_addresses, has_address, if_named, is_finished, is_same_address, kept_with, label_map, namespace_metadata, namespace_object, no_status, owner_reference, pod, pod_ip, pod_item, pod_metadata, pod_spec, pod_status, port_name, unless_empty}
 use Rattle.np_meaning.specs.EachPod.{AreEach}
 
 -- what the members of a pod are read as, each for itself
@@ -154,7 +154,7 @@ pod_spec-meant value spec is =
 
 -- ---- addresses
 
-same-equal : (a b : Address) → is_same a b ≡ true → a ≡ b
+same-equal : (a b : Address) → is_same_address a b ≡ true → a ≡ b
 same-equal (Four a) (Four b) is = let same : a ≡ b = grind (arith, nat_tests) in ap Four same
 same-equal (Six a) (Six b) is = let same : a ≡ b = grind (arith, nat_tests) in ap Six same
 same-equal (Four a) (Six b) is = cc
@@ -162,19 +162,19 @@ same-equal (Six a) (Four b) is = cc
 
 -- whether what was read is an address
 abbrev is_found : Address → Option Address → Bool
-is_found address found = unwrap_or (option_map (λ other. is_same other address) found) false
+is_found address found = unwrap_or (option_map (λ other. is_same_address other address) found) false
 
 kept_with-has : (kept : List Address) (found : Option Address) (address : Address) → has_address (kept_with kept found) address ≡ (has_address kept address || is_found address found)
 kept_with-has kept None address = sym (or-false (has_address kept address))
-kept_with-has kept (Some other) address = by (has_address kept other) refl (is_same other address) refl
+kept_with-has kept (Some other) address = by (has_address kept other) refl (is_same_address other address) refl
   where
-    by : (known : Bool) → has_address kept other ≡ known → (same : Bool) → is_same other address ≡ same →
+    by : (known : Bool) → has_address kept other ≡ known → (same : Bool) → is_same_address other address ≡ same →
         has_address (cond known kept (kept ++ other ∷ [])) address ≡ (has_address kept address || same)
     by true known true same =
         let it : has_address kept address ≡ true = ap (has_address kept) (sym (same-equal other address same)) ∙ known in
         rw it refl
     by true known false same = sym (or-false (has_address kept address))
-    by false known same here = list_any-append (λ one. is_same one address) kept (other ∷ []) ∙ ap (λ b. has_address kept address || b) (or-false (is_same other address) ∙ here)
+    by false known same here = list_any-append (λ one. is_same_address one address) kept (other ∷ []) ∙ ap (λ b. has_address kept address || b) (or-false (is_same_address other address) ∙ here)
 
 distinct-has : (kept : List Address) (found : List (Option Address)) (address : Address) →
     has_address (fold kept_with kept found) address ≡ (has_address kept address || list_any (is_found address) found)
@@ -237,8 +237,8 @@ pod_status-meant value status is =
     let phase = bind-output (optional (codes "phase") text value) _ status past in
     let first = bind-output (optional (codes "podIP") address value) _ status phase.after in
     let others = bind-output (listed (codes "podIPs") pod_ip value)
-    (λ others. Ok (record { finished = is_finished phase.first; addresses = distinct (option_flatten first.first ∷ others) })) status first.after in
-    let made : record { finished = is_finished phase.first; addresses = distinct (option_flatten first.first ∷ others.first) } ≡ status = let after = others.after in cc in
+    (λ others. Ok (record { finished = is_finished phase.first; addresses = distinct_addresses (option_flatten first.first ∷ others) })) status first.after in
+    let made : record { finished = is_finished phase.first; addresses = distinct_addresses (option_flatten first.first ∷ others.first) } ≡ status = let after = others.after in cc in
     subst (IsStatus value) made (record {
       addresses = λ one. distinct-has [] (option_flatten first.first ∷ others.first) one
           ∙ rw (
@@ -306,8 +306,8 @@ namespace_metadata-meant value read is =
     subst (λ (one : NamespaceItem). (text_at (codes "name") value ≡ one.name) × AreLabelsOf value one.labels) made
     (text_at-output name name-output (codes "name") value called.first called.here, labels-meant value labels.first labels.here)
 
-pub namespace-meant : (value : Data) (read : NamespaceItem) → namespace value ≡ Ok read → IsNamespaceOf value read
-unfolding namespace
+pub namespace-meant : (value : Data) (read : NamespaceItem) → namespace_object value ≡ Ok read → IsNamespaceOf value read
+unfolding namespace_object
 namespace-meant value read is =
     let both = namespace_metadata-meant (object_at (codes "metadata") value) read (object_at-output namespace_metadata (codes "metadata") value read is) in
     record { name = both.0; labels = both.1 }

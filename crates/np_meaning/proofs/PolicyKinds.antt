@@ -9,7 +9,7 @@ use Rattle.np_meaning.specs.Prelude.{Admin, AdminPolicy, Base, BasePolicy, Field
 use Rattle.np_json.proofs.ReadLemmas.{under-output}
 use Rattle.np_policies.proofs.ReadLemmas.{bind-output, then-output}
 use Rattle.np_meaning.proofs.MemberReads.{of_type-output, text_at-output}
-use Rattle.np_policies.specs.Prelude.{admin_policy, base_policy, is_network_policy, is_of, net_policy, policy_by, policy_kind, policy_of}
+use Rattle.np_policies.specs.Prelude.{admin_policy, base_policy, is_network_policy, is_of_type, net_policy, policy_by, policy_kind, policy_of}
 use Rattle.np_policies.specs.declared.policy.Policy.TheVariants as policy
 
 -- the kind of a policy, and that the shape of its kind read it
@@ -36,7 +36,7 @@ by_kind-output Foreign value read is = let none = under-output (Field (codes "ki
 by_kind-output NoPolicy value read is = cc
 
 -- the type of an object is what its members say
-meant_by : (version kind : List ℕ) (value : Data) (meta : TypeMeta) → type_meta value ≡ Ok meta → is_of version kind meta ≡ true → IsOfKind version kind value
+meant_by : (version kind : List ℕ) (value : Data) (meta : TypeMeta) → type_meta value ≡ Ok meta → is_of_type version kind meta ≡ true → IsOfKind version kind value
 unfolding type_meta
 meant_by version kind value meta read is =
     let past = then-output (must_be_object value) _ meta read in
@@ -68,11 +68,11 @@ tested false false false true = record { is_net = λ same. cc; is_admin = λ sam
 tested false false false false = record { is_net = λ same. cc; is_admin = λ same. cc; is_base = λ same. cc }
 
 policy_kind-tested : (meta : TypeMeta) →
-    IsTested (is_of (codes "networking.k8s.io/v1") (codes "NetworkPolicy") meta) (is_of (codes "policy.networking.k8s.io/v1alpha1") (codes "AdminNetworkPolicy") meta)
-    (is_of (codes "policy.networking.k8s.io/v1alpha1") (codes "BaselineAdminNetworkPolicy") meta) (policy_kind meta)
+    IsTested (is_of_type (codes "networking.k8s.io/v1") (codes "NetworkPolicy") meta) (is_of_type (codes "policy.networking.k8s.io/v1alpha1") (codes "AdminNetworkPolicy") meta)
+    (is_of_type (codes "policy.networking.k8s.io/v1alpha1") (codes "BaselineAdminNetworkPolicy") meta) (policy_kind meta)
 policy_kind-tested meta =
-    tested (is_of (codes "networking.k8s.io/v1") (codes "NetworkPolicy") meta) (is_of (codes "policy.networking.k8s.io/v1alpha1") (codes "AdminNetworkPolicy") meta)
-    (is_of (codes "policy.networking.k8s.io/v1alpha1") (codes "BaselineAdminNetworkPolicy") meta) (is_network_policy meta.kind)
+    tested (is_of_type (codes "networking.k8s.io/v1") (codes "NetworkPolicy") meta) (is_of_type (codes "policy.networking.k8s.io/v1alpha1") (codes "AdminNetworkPolicy") meta)
+    (is_of_type (codes "policy.networking.k8s.io/v1alpha1") (codes "BaselineAdminNetworkPolicy") meta) (is_network_policy meta.kind)
 
 -- the type of an object that was read as a policy, and that the shape of its kind read it
 record IsKindRead (value : Data) (read : Policy) : Type 0 where

@@ -8,7 +8,7 @@ use Rattle.np_model.specs.Prelude.{is_word}
 use Rattle.np_policies.proofs.ReadLemmas.{bind-output, then-output, optional-output, IsOptional}
 use Rattle.np_meaning.proofs.PodMeant.{protocol-meant}
 use Rattle.np_meaning.proofs.MemberReads.{port-whole, port_number-whole}
-use Rattle.np_policies.specs.Prelude.{end_port, may_end, net_port, net_port_by, number_of, port_name, port_value, port_value_by, protocol}
+use Rattle.np_policies.specs.Prelude.{container_port_name, end_port, may_end, net_port, net_port_by, port_number_of, port_value, port_value_by, protocol}
 use Rattle.np_model.specs.declared.network_policy.NetPort.TheVariants.{Span, Named}
 
 -- a number that was read as a port is the port
@@ -61,9 +61,9 @@ port_value-number value n read number is =
     sym made ∙ ap Number first
 
 port_value-name : (name : List ℕ) (read : PortValue) → port_value (string name) ≡ Ok read → read ≡ Name name
-unfolding port_value port_name
+unfolding port_value container_port_name
 port_value-name name read is =
-    let one = bind-output (port_name (string name)) (λ name. Ok (Name name)) read is in
+    let one = bind-output (container_port_name (string name)) (λ name. Ok (Name name)) read is in
     let made : Name one.first ≡ read = let after = one.after in cc in
     let word = then-output (refuse_if (length name == 0) BadPort) (refuse_if (not (is_word name)) BadField >> Ok name) one.first one.here in
     let end = then-output (refuse_if (not (is_word name)) BadField) (Ok name) one.first word in
@@ -83,7 +83,7 @@ record IsPortRead (value : Data) (read : NetPort) : Type 0 where
   pub first : Option PortValue
   pub last : Option ℕ
   pub first_is : IsOptional port_value (member_of (codes "port") value) first
-  pub last_is : IsOptional (end_port (number_of first)) (member_of (codes "endPort") value) last
+  pub last_is : IsOptional (end_port (port_number_of first)) (member_of (codes "endPort") value) last
   pub made : read ≡ net_port_by (protocol_of value) first last
 
 net_port-output : (value : Data) (read : NetPort) → net_port value ≡ Ok read → IsPortRead value read
@@ -92,13 +92,13 @@ net_port-output value read is =
     let past = then-output (must_be_object value) _ read is in
     let proto = bind-output (protocol value) _ read past in
     let first = bind-output (optional (codes "port") port_value value) _ read proto.after in
-    let last = bind-output (optional (codes "endPort") (end_port (number_of first.first)) value) (λ last. Ok (net_port_by proto.first first.first last)) read first.after in
+    let last = bind-output (optional (codes "endPort") (end_port (port_number_of first.first)) value) (λ last. Ok (net_port_by proto.first first.first last)) read first.after in
     let made : net_port_by proto.first first.first last.first ≡ read = let after = last.after in cc in
     record {
       first = first.first;
       last = last.first;
       first_is = optional-output port_value (codes "port") value first.first first.here;
-      last_is = optional-output (end_port (number_of first.first)) (codes "endPort") value last.first last.here;
+      last_is = optional-output (end_port (port_number_of first.first)) (codes "endPort") value last.first last.here;
       made = sym made ∙ ap (λ (p : Proto). net_port_by p first.first last.first) (protocol-output value proto.first proto.here);
     }
 
@@ -121,7 +121,7 @@ pub one_port-meant : (value : Data) (read : NetPort) (n : ℕ) → net_port valu
 one_port-meant value read n is number none =
     let parts = net_port-output value read is in
     let first = first-number value n parts.first parts.first_is number in
-    let last = missing-output (end_port (number_of parts.first)) (member_of (codes "endPort") value) parts.last parts.last_is none in
+    let last = missing-output (end_port (port_number_of parts.first)) (member_of (codes "endPort") value) parts.last parts.last_is none in
     parts.made ∙ ap (λ (found : Option PortValue). net_port_by (protocol_of value) found parts.last) first ∙ ap (λ (found : Option ℕ). net_port_by (protocol_of value) (Some (Number n)) found) last
 
 pub range-meant : (value : Data) (read : NetPort) (n m : ℕ) → net_port value ≡ Ok read → number_at (codes "port") value ≡ Some (pos n) → number_at (codes "endPort") value ≡ Some (pos m) →
@@ -130,8 +130,8 @@ range-meant value read n m is number last_number =
     let parts = net_port-output value read is in
     let first = first-number value n parts.first parts.first_is number in
     let member = number_at-there (codes "endPort") value (pos m) last_number in
-    let output = there-output (end_port (number_of parts.first)) (member_of (codes "endPort") value) parts.last member.found parts.last_is member.there in
-    let last = output.1 ∙ ap Some (end_port-output (number_of parts.first) member.found m output.0 member.whole output.2) in
+    let output = there-output (end_port (port_number_of parts.first)) (member_of (codes "endPort") value) parts.last member.found parts.last_is member.there in
+    let last = output.1 ∙ ap Some (end_port-output (port_number_of parts.first) member.found m output.0 member.whole output.2) in
     parts.made ∙ ap (λ (found : Option PortValue). net_port_by (protocol_of value) found parts.last) first ∙ ap (λ (found : Option ℕ). net_port_by (protocol_of value) (Some (Number n)) found) last
 
 pub name-meant : (value : Data) (read : NetPort) (name : List ℕ) → net_port value ≡ Ok read → member_of (codes "port") value ≡ Some (string name) → read ≡ Named (protocol_of value) name

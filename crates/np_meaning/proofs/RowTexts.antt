@@ -11,7 +11,7 @@ use Rattle.np_addr.specs.Prelude.{pieces}
 use Rattle.np_addr.proofs.PieceLemmas.{IsOther, IsOther-from_digits, pieces-first, pieces-one}
 use Rattle.np_conns.proofs.OneText.{conns_text-injective}
 use Rattle.np_fold.specs.Prelude.{first_pods, folding_of, owner_name, owner_name_at, owner_names}
-use Rattle.np_report.specs.Prelude.{end_text, family_suffix, names_of, row_text}
+use Rattle.np_report.specs.Prelude.{family_suffix, names_of, row_end_text, row_text}
 use Rattle.np_meaning.proofs.EndTexts.{IsNoSpanByte, lacks-from, one-end, span-lacks}
 use Rattle.np_meaning.proofs.NameTexts.{few-workloads, name-within, names-all}
 use Rattle.np_model.specs.Prelude.{IsLawful, is_name, is_well_pod, is_word_byte}
@@ -111,7 +111,7 @@ module _ (lists : EstateLists) (report : Report) (lawful : IsLawful lists) where
       pods : list_all is_well_pod lists.pods ≡ true
       pods = (and_parts (list_all is_well_pod lists.pods) _ (and_parts _ _ (and_parts _ _ (and_parts _ _ (and_parts _ _ lawful.well).0).0).0).0).0
 
-  end-lacks : (end : RowEnd) → IsEndOf lists end → All (IsOther 32) (end_text (names_of (folding_of lists)) report end)
+  end-lacks : (end : RowEnd) → IsEndOf lists end → All (IsOther 32) (row_end_text (names_of (folding_of lists)) report end)
   end-lacks (Work number) within =
       names-all lists (All (IsOther 32)) (All (IsOther 32)) (λ place pod at. owner-lacks pod (well-at place pod at))
       (λ wish place known lacks. All-append (IsOther 32) wish (suffix (owner_names lists) place) lacks (suffix-lacks (owner_names lists) place few known))

@@ -9,7 +9,7 @@ use Rattle.serde_json.specs.Find.{as_str, as_object}
 use Rattle.np_json.specs.Prelude.{as_pairs, labels, listed, member_of, must_be_object, of_type, optional, pairs_of_members, refuse, refuse_if, required, text, word, ◌>>◌}
 use Rattle.np_model.specs.Prelude.{is_label, is_whole_word}
 use Rattle.np_meaning.specs.Prelude.{Absent, BadField, BadSelector, NoneOf, OneOf, Op, Pair, Present, Requirement, Selector, any_item, has_entries, has_text, is_among, is_text, meets_expression, meets_members, meets_operator}
-use Rattle.np_labels.specs.Prelude.{allows, distinct, fits, is_listed, label_requirement, meets_requirement, meets_selector, requirement_of, value_of}
+use Rattle.np_labels.specs.Prelude.{distinct, fits, is_listed, label_requirement, meets_requirement, meets_selector, op_allows, requirement_of, value_of}
 pub use Rattle.np_labels.proofs.Distinct.{is_listed-distinct}
 use Rattle.np_policies.proofs.ReadLemmas.{bind-output, then-output, optional-output, listed-output, list_all-each_item, IsOptional}
 use Rattle.np_meaning.proofs.MemberReads.{list_any-each_item, of_type-output, word-output, text_at-output}
@@ -20,7 +20,7 @@ use Rattle.np_policies.specs.Prelude.{expression, fitting, has_other, items_at, 
 one_label : (own : List Pair) (name s : List ℕ) (value : Data) → as_str value ≡ Some s → meets_requirement (label_requirement (name, s)) own ≡ has_text (value_of own name) value
 one_label own name s value is = by (value_of own name)
   where
-    by : (found : Option (List ℕ)) → allows OneOf (s ∷ []) found ≡ has_text found value
+    by : (found : Option (List ℕ)) → op_allows OneOf (s ∷ []) found ≡ has_text found value
     by None = refl
     by (Some other) = rw is (or-false (bytes_eq s other))
 
@@ -83,22 +83,22 @@ fitting-output (Some other) has_values op is = by (fits other has_values) is
 
 -- a text among the values that were read is among the items
 among : (items : _) (values : List (List ℕ)) (found : Option (List ℕ)) → ((s : List ℕ) → is_listed values s ≡ any_item (λ value. is_text value s) items) →
-    allows OneOf (distinct values) found ≡ is_among items found
+    op_allows OneOf (distinct values) found ≡ is_among items found
 among items values None same = refl
 among items values (Some s) same = is_listed-distinct values s ∙ same s
 
 not_among : (items : _) (values : List (List ℕ)) (found : Option (List ℕ)) → ((s : List ℕ) → is_listed values s ≡ any_item (λ value. is_text value s) items) →
-    allows NoneOf (distinct values) found ≡ not (is_among items found)
+    op_allows NoneOf (distinct values) found ≡ not (is_among items found)
 not_among items values None same = refl
 not_among items values (Some s) same = ap not (is_listed-distinct values s ∙ same s)
 
 operator_met : (operator : List ℕ) (items : _) (values : List (List ℕ)) (op : Op) (found : Option (List ℕ)) → op_named operator ≡ Some op →
-    ((s : List ℕ) → is_listed values s ≡ any_item (λ value. is_text value s) items) → allows op (distinct values) found ≡ meets_operator operator items found
+    ((s : List ℕ) → is_listed values s ≡ any_item (λ value. is_text value s) items) → op_allows op (distinct values) found ≡ meets_operator operator items found
 operator_met operator items values op found is same =
     by (bytes_eq operator (codes "In")) (bytes_eq operator (codes "NotIn")) (bytes_eq operator (codes "Exists")) (bytes_eq operator (codes "DoesNotExist")) op is
   where
     by : (one none present absent : Bool) (op : Op) → cond one (Some OneOf) (cond none (Some NoneOf) (cond present (Some Present) (cond absent (Some Absent) None))) ≡ Some op
-        → allows op (distinct values) found ≡ cond one (is_among items found) (cond none (not (is_among items found)) (cond present (is_some found) (cond absent (is_none found) false)))
+        → op_allows op (distinct values) found ≡ cond one (is_among items found) (cond none (not (is_among items found)) (cond present (is_some found) (cond absent (is_none found) false)))
     by true none present absent OneOf is = among items values found same
     by true none present absent NoneOf is = cc
     by true none present absent Present is = cc

@@ -9,7 +9,7 @@ use Rattle.serde_json.specs.Data.{Data, object, Members, no_members, member}
 use Rattle.serde_json.specs.Find.{as_object, as_str}
 use Rattle.np_meaning.specs.Prelude.{IsServiceOf, IsServicePort, IsServiceSelector, Named, Number, Pair, PortName, ServiceItem, ServicePort, Tcp, entries_at, have_entries, is_text_of, list_at, number_at, object_at, target_at, text_at}
 use Rattle.np_json.specs.Prelude.{as_whole, labels, listed, member_of, must_be_object, namespaced_name, optional, pairs_of_members, port, port_number, protocol_name, required, text}
-use Rattle.np_labels.specs.Prelude.{allows, label_requirement, meets_requirement, value_of}
+use Rattle.np_labels.specs.Prelude.{label_requirement, meets_requirement, op_allows, value_of}
 use Rattle.np_labels.specs.declared.op.Op.TheVariants.{OneOf}
 use Rattle.np_meaning.proofs.MetaMeant.{labels-output, namespaced_name-meant, pairs-member}
 use Rattle.np_meaning.proofs.Outputs.{OutputOf, optional-output, each-output, number_at-required, text_at-optional, IsOptional}
@@ -28,7 +28,7 @@ ServiceSpec = OutputOf service_spec
 entry-met : (own : List Pair) (name s : List ℕ) (value : Data) → as_str value ≡ Some s → meets_requirement (label_requirement (name, s)) own ≡ is_text_of (value_of own name) value
 entry-met own name s value is = by (value_of own name)
   where
-    by : (found : Option (List ℕ)) → allows OneOf (s ∷ []) found ≡ is_text_of found value
+    by : (found : Option (List ℕ)) → op_allows OneOf (s ∷ []) found ≡ is_text_of found value
     by None = refl
     by (Some other) = rw is (or-false (bytes_eq s other))
 

@@ -9,7 +9,7 @@ use Rattle.np_meaning.specs.Prelude.{Address, AddressSpan, Cidr, Family, IsRange
 use Rattle.np_addr.specs.declared.address.Address.TheVariants as address
 use Rattle.np_addr.specs.declared.address.Family.TheVariants as family
 use Rattle.np_addr.specs.declared.cidr.Cidr.TheVariants as cidr
-use Rattle.np_addr.specs.Prelude.{AddressRanges, IsAddress, IsCidr, IsRightPrefixList, address_text, base_of, cidr_has, cidr_of, cidr_text, pieces, set_has, some_has}
+use Rattle.np_addr.specs.Prelude.{AddressRanges, IsAddress, IsCidr, IsRightPrefixList, address_text, base_of, cidr_has, cidr_of, cidr_text, pieces, set_has, some_block_has}
 use Rattle.np_addr.proofs.CanonicalLemmas.{address_text_injective, cidr_of-cidr_text}
 use Rattle.np_addr.proofs.PieceLemmas.{IsOther, pieces-first, pieces-one}
 use Rattle.np_addr.proofs.PrefixLemmas.{prefixes_of-one_four, prefixes_of-one_six}
@@ -18,7 +18,7 @@ use Rattle.np_addr.proofs.OnePrefixList.{base_is_in}
 use Rattle.np_base.specs.Ranges.{holds}
 use Rattle.np_report.specs.Prelude.{blocks_of, ends_text, span_text}
 use Rattle.np_table.specs.Prelude.{IsInFamily}
-use Rattle.np_kinds.specs.Prelude.{address_of}
+use Rattle.np_kinds.specs.Prelude.{address_numbered}
 use Rattle.np_table.specs.declared.rows.AddressSpan.TheVariants as span
 use Rattle.np_meaning.proofs.AddressBytes.{IsForeign, address-lacks, block-lacks}
 
@@ -27,7 +27,7 @@ use Rattle.np_meaning.proofs.AddressBytes.{IsForeign, address-lacks, block-lacks
 dash : IsForeign 45
 dash = record { digit = lit≤ tt; dot = refl; colon = refl }
 
-pub address-fits : (family : Family) (n : ℕ) → IsInFamily family n → IsAddress (address_of family n)
+pub address-fits : (family : Family) (n : ℕ) → IsInFamily family n → IsAddress (address_numbered family n)
 address-fits family.Four n within = omega arith
 address-fits family.Six n within = omega arith
 
@@ -35,7 +35,7 @@ low-within : (family : Family) (range : Range ℕ) → IsRangeOf family range �
 low-within family.Four range of = omega (arith, of.0, of.1)
 low-within family.Six range of = omega (arith, of.0, of.1)
 
-parts-of-address : (f g : Family) (m n : ℕ) → address_of f m ≡ address_of g n → (f ≡ g) × (m ≡ n)
+parts-of-address : (f g : Family) (m n : ℕ) → address_numbered f m ≡ address_numbered g n → (f ≡ g) × (m ≡ n)
 parts-of-address family.Four family.Four m n same = (refl, cc)
 parts-of-address family.Six family.Six m n same = (refl, cc)
 parts-of-address family.Four family.Six m n same = absurd cc
@@ -43,24 +43,24 @@ parts-of-address family.Six family.Four m n same = absurd cc
 
 -- the texts of the ends
 abbrev end_texts : Family → Range ℕ → Bool → List (List ℕ)
-end_texts family range true = address_text (address_of family range.lo) ∷ []
-end_texts family range false = address_text (address_of family range.lo) ∷ address_text (address_of family range.hi) ∷ []
+end_texts family range true = address_text (address_numbered family range.lo) ∷ []
+end_texts family range false = address_text (address_numbered family range.lo) ∷ address_text (address_numbered family range.hi) ∷ []
 
 module _ (family : Family) (range : Range ℕ) (of : IsRangeOf family range) where
-  pub low-fits : IsAddress (address_of family range.lo)
+  pub low-fits : IsAddress (address_numbered family range.lo)
   low-fits = address-fits family range.lo (low-within family range of)
 
-  pub high-fits : IsAddress (address_of family range.hi)
+  pub high-fits : IsAddress (address_numbered family range.hi)
   high-fits = address-fits family range.hi of.1
 
   ends-cut : pieces 45 (ends_text family range) ≡ end_texts family range (range.lo == range.hi)
   ends-cut = by (range.lo == range.hi)
     where
       low : List ℕ
-      low = address_text (address_of family range.lo)
+      low = address_text (address_numbered family range.lo)
 
       high : List ℕ
-      high = address_text (address_of family range.hi)
+      high = address_text (address_numbered family range.hi)
 
       by : (one : Bool) → pieces 45 (cond one low (low ++ codes "-" ++ high)) ≡ end_texts family range one
       by true = pieces-one 45 low (address-lacks 45 dash _ low-fits)
@@ -167,7 +167,7 @@ module _ (a : AddressSpan) (is : IsSpan a) where
       (has-fits a is (base_of block) (sym (right.exact (base_of block)) ∙ list_any_at (λ one. cidr_has one (base_of block)) (blocks_of a) k d within (base_is_in block)), right.well k d within)
 
   some-block : blocks_of a ≡ [] → ⊥
-  some-block none = false≢true (sym (ap (λ (blocks : List Cidr). some_has blocks (first-of a)) none) ∙ right.exact (first-of a) ∙ has-first a is)
+  some-block none = false≢true (sym (ap (λ (blocks : List Cidr). some_block_has blocks (first-of a)) none) ∙ right.exact (first-of a) ∙ has-first a is)
 
 -- blocks without a comma in their texts
 abbrev AreLacking : List Cidr → Type 0
@@ -199,7 +199,7 @@ blocks-cut a is = joined-cut (blocks_of a) (some-block a is) (λ k d within. let
 span-by_blocks : (a b : AddressSpan) → IsSpan a → IsSpan b → span_text Two a ≡ span_text Two b → a ≡ b
 span-by_blocks a b is_a is_b same =
     let blocks = blocks-apart (blocks_of a) (blocks_of b) (blocks-plain a is_a) (blocks-plain b is_b) (sym (blocks-cut a is_a) ∙ ap (pieces 44) same ∙ blocks-cut b is_b) in
-    same-addresses a b is_a is_b (λ one. sym ((right a is_a).exact one) ∙ ap (λ (found : List Cidr). some_has found one) blocks ∙ (right b is_b).exact one)
+    same-addresses a b is_a is_b (λ one. sym ((right a is_a).exact one) ∙ ap (λ (found : List Cidr). some_block_has found one) blocks ∙ (right b is_b).exact one)
 
 pub one-span : (report : Report) (a b : AddressSpan) → IsSpan a → IsSpan b → span_text report a ≡ span_text report b → a ≡ b
 one-span One a b is_a is_b same = span-by_ends a b is_a is_b same

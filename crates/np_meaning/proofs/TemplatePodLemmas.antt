@@ -9,7 +9,7 @@ use Rattle.std.proofs.lemmas.List.{length-map}
 use Rattle.std.proofs.lemmas.List.Folds.{Any-from_list_any, list_any_at}
 use Rattle.std.proofs.lemmas.List.FromFn.{get_or-range_with_len, length-range_with_len}
 use Rattle.std.proofs.lemmas.Option.{none-some, same_Some, slice_get_within}
-use Rattle.np_owners.specs.Prelude.{IsChains, first_cycle, full_name_of, has_pods, is_at_or_over, is_marked, is_pod, makes_pod, owner_place, owners, places, ups, wants_pods}
+use Rattle.np_owners.specs.Prelude.{IsChains, first_cycle, full_name_of, has_pods, is_at_or_over, is_marked, is_pod, makes_pod, owner_place, owners, places_of_owners, ups, wants_pods}
 use Rattle.np_meaning.specs.Prelude.{ControllerItem, EstateLists, HasTemplatePod, IsInChain, Item, LacksPods, PodItem, controller_item, pod_item}
 use Rattle.np_items.specs.declared.item.Item.TheVariants as item
 use Rattle.np_objects.specs.declared.object.Object.TheVariants as object
@@ -18,7 +18,7 @@ use Rattle.np_reading.proofs.LawfulNames.{items_apart, AreNamedApart}
 use Rattle.np_reading.proofs.ReadingLemmas.{estate_of-passed}
 use Rattle.np_reading.specs.Prelude.{Reading, estate_of, estate_of_items, have_names_apart, have_no_cycle, have_priorities_apart, refuse_found}
 use Rattle.np_reading.specs.declared.refusal.Refusal.TheVariants.{OwnerCycle}
-use Rattle.np_items.specs.Prelude.{Reading as ItemsReading, all_values, each_item, item_of, items_of, must_be_few}
+use Rattle.np_items.specs.Prelude.{ItemsReading as ItemsReading, all_values, item_of, items_from, items_of, must_be_few}
 use Rattle.np_json.specs.Prelude.{◌>>=◌, ◌>>◌}
 use Rattle.np_items.specs.declared.fault.ItemsFault.{ItemsFault}
 use Rattle.np_items.specs.declared.fault.ItemsFault.TheVariants.{TooManyItems}
@@ -52,7 +52,7 @@ module _ (items : List Item) (place : ℕ) (controller : ControllerItem) (at : s
   has_pods-stands : has_pods items place ≡ true → (pod : PodItem) × Contains items (pod_item pod) × IsInChain items controller (pod_item pod)
   has_pods-stands has =
       let test : ℕ → Bool = λ below. is_marked (map is_pod items) below && is_at_or_over (ups items) place below in
-      let found = Any-from_list_any test (places (ups items)) has in
+      let found = Any-from_list_any test (places_of_owners (ups items)) has in
       let parts = and_parts (is_marked (map is_pod items) found.1) (is_at_or_over (ups items) place found.1) found.4 in
       let pod = marked-pod items found.1 parts.0 in
       let over = above found.1 pod.0 pod.1 (nat_eq found.1 place) refl parts.1 in
@@ -73,7 +73,7 @@ module _ (items : List Item) (place : ℕ) (controller : ControllerItem) (at : s
       (stands-chain items place controller at apart stands.owners below.0 (pod_item pod) below.1 stands.chain stands.among) in
       let test : ℕ → Bool = λ below. is_marked (map is_pod items) below && is_at_or_over (ups items) place below in
       let passes : test below.0 ≡ true = and_from _ _ (pod-marked items below.0 pod below.1) (rw reached (or-true (nat_eq below.0 place))) in
-      list_any_at test (places (ups items)) below.0 0 (rw (length-range_with_len 0 (length (ups items))) within)
+      list_any_at test (places_of_owners (ups items)) below.0 0 (rw (length-range_with_len 0 (length (ups items))) within)
       (rw (get_or-range_with_len 0 (length (ups items)) below.0 0 within, zero-add below.0) passes)
 
 -- ---- who stands for a pod
@@ -152,23 +152,23 @@ unfolding estate_of
 estate-no_cycle texts items lists read is =
     no_cycle items (steps-passed (have_names_apart items) (have_priorities_apart items) (have_no_cycle items) (estate_of_items items) lists (rw read at is))
 
-each_item-count : (number : ℕ) (values : List Data) (items : List Item) → each_item number values ≡ Ok items → length items ≡ length values
+each_item-count : (number : ℕ) (values : List Data) (items : List Item) → items_from number values ≡ Ok items → length items ≡ length values
 each_item-count number [] [] is = refl
 each_item-count number [] (one ∷ items) is = cc
 each_item-count number (value ∷ values) items is = first (λ more. each_item-count (number + 1) values more) (item_of number value) is
   where
     IsCounted : Type 0
-    IsCounted = (more : List Item) → each_item (number + 1) values ≡ Ok more → length more ≡ length values
+    IsCounted = (more : List Item) → items_from (number + 1) values ≡ Ok more → length more ≡ length values
 
-    rest : IsCounted → (one : Item) (others : Result (List Item) ItemsFault) → each_item (number + 1) values ≡ others → (others >>= (λ more. Ok (one ∷ more))) ≡ Ok items →
+    rest : IsCounted → (one : Item) (others : Result (List Item) ItemsFault) → items_from (number + 1) values ≡ others → (others >>= (λ more. Ok (one ∷ more))) ≡ Ok items →
         length items ≡ suc (length values)
     rest counted one (Ok more) read so =
         let same : one ∷ more ≡ items = cc in
         sym (ap length same) ∙ ap suc (counted more read)
     rest counted one (Err fault) read so = cc
 
-    first : IsCounted → (one : Result Item ItemsFault) → (one >>= (λ one. each_item (number + 1) values >>= (λ more. Ok (one ∷ more)))) ≡ Ok items → length items ≡ suc (length values)
-    first counted (Ok one) so = rest counted one (each_item (number + 1) values) refl so
+    first : IsCounted → (one : Result Item ItemsFault) → (one >>= (λ one. items_from (number + 1) values >>= (λ more. Ok (one ∷ more)))) ≡ Ok items → length items ≡ suc (length values)
+    first counted (Ok one) so = rest counted one (items_from (number + 1) values) refl so
     first counted (Err fault) so = cc
 
 items-few : (texts : List (List ℕ)) (items : List Item) → items_of texts ≡ Ok items → length items ≤ 20000
@@ -178,11 +178,11 @@ items-few texts items read = by (all_values texts) read
     passes : ItemsReading ⊤
     passes = Ok tt
 
-    counted : (values : List Data) (b : Bool) → nat_le (length values) 20000 ≡ b → (cond b passes (Err (TooManyItems (length values))) >> each_item 1 values) ≡ Ok items → length items ≤ 20000
+    counted : (values : List Data) (b : Bool) → nat_le (length values) 20000 ≡ b → (cond b passes (Err (TooManyItems (length values))) >> items_from 1 values) ≡ Ok items → length items ≤ 20000
     counted values true few so = let most = leb-true (length values) 20000 few in rw (each_item-count 1 values items so) most
     counted values false many so = cc
 
-    by : (values : Result (List Data) ItemsFault) → (values >>= (λ values. must_be_few (length values) >> each_item 1 values)) ≡ Ok items → length items ≤ 20000
+    by : (values : Result (List Data) ItemsFault) → (values >>= (λ values. must_be_few (length values) >> items_from 1 values)) ≡ Ok items → length items ≤ 20000
     by (Ok values) so = counted values (nat_le (length values) 20000) refl so
     by (Err fault) so = cc
 

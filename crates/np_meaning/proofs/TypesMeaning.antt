@@ -11,22 +11,22 @@ use Rattle.np_meaning.specs.Prelude.{Direction, Egress, Ingress, NamespacedName,
 use Rattle.np_meaning.proofs.PolicyKinds.{net-read}
 use Rattle.np_policies.proofs.ReadLemmas.{bind-output, then-output, optional-output, listed-output, each_item-output, IsOptional}
 use Rattle.np_meaning.proofs.MemberReads.{list_any-each_item, of_type-output}
-use Rattle.np_policies.specs.Prelude.{direction_named, empty_spec, everything, has_direction, is_same, items_at, net_policy, net_policy_by, net_rule, net_rules, net_spec, policy_of, policy_type, rules_if, selector}
+use Rattle.np_policies.specs.Prelude.{direction_named, empty_spec, everything, has_direction, is_same_direction, items_at, net_policy, net_policy_by, net_rule, net_rules, net_spec, policy_of, policy_type, rules_if, selector}
 use Rattle.np_policies.specs.declared.policy.Policy.TheVariants as policy
 
 -- a type that was read is the text of its item
-named_ingress : (one other : Bool) (read : Direction) → cond one (Some Ingress) (cond other (Some Egress) None) ≡ Some read → is_same read Ingress ≡ one
+named_ingress : (one other : Bool) (read : Direction) → cond one (Some Ingress) (cond other (Some Egress) None) ≡ Some read → is_same_direction read Ingress ≡ one
 named_ingress true other Ingress is = refl
 named_ingress true other Egress is = cc
 named_ingress false true Ingress is = cc
 named_ingress false true Egress is = refl
 named_ingress false false read is = cc
 
-named_egress : (s : List ℕ) (read : Direction) → direction_named s ≡ Some read → is_same read Egress ≡ bytes_eq s (codes "Egress")
+named_egress : (s : List ℕ) (read : Direction) → direction_named s ≡ Some read → is_same_direction read Egress ≡ bytes_eq s (codes "Egress")
 named_egress s read is = by (bytes_eq s (codes "Ingress")) refl (bytes_eq s (codes "Egress")) refl read is
   where
     by : (one : Bool) → bytes_eq s (codes "Ingress") ≡ one → (other : Bool) → bytes_eq s (codes "Egress") ≡ other → (read : Direction) →
-        cond one (Some Ingress) (cond other (Some Egress) None) ≡ Some read → is_same read Egress ≡ other
+        cond one (Some Ingress) (cond other (Some Egress) None) ≡ Some read → is_same_direction read Egress ≡ other
     by true here true there read is =
         let same = (bytes_decides s (codes "Ingress")).0 here in
         let off : bytes_eq (codes "Ingress") (codes "Egress") ≡ true = subst (λ (name : List ℕ). bytes_eq name (codes "Egress") ≡ true) same there in
@@ -37,14 +37,14 @@ named_egress s read is = by (bytes_eq s (codes "Ingress")) refl (bytes_eq s (cod
     by false here true there Egress is = refl
     by false here false there read is = cc
 
-ingress_alike : (value : Data) (read : Direction) → policy_type value ≡ Ok read → is_same read Ingress ≡ is_text value (codes "Ingress")
+ingress_alike : (value : Data) (read : Direction) → policy_type value ≡ Ok read → is_same_direction read Ingress ≡ is_text value (codes "Ingress")
 unfolding policy_type
 ingress_alike value read is =
     let name = bind-output (text value) (λ s. of_type (direction_named s)) read is in
     let named = of_type-output (direction_named name.first) read name.after in
     rw (of_type-output (as_str value) name.first name.here) (named_ingress (bytes_eq name.first (codes "Ingress")) (bytes_eq name.first (codes "Egress")) read named)
 
-egress_alike : (value : Data) (read : Direction) → policy_type value ≡ Ok read → is_same read Egress ≡ is_text value (codes "Egress")
+egress_alike : (value : Data) (read : Direction) → policy_type value ≡ Ok read → is_same_direction read Egress ≡ is_text value (codes "Egress")
 unfolding policy_type
 egress_alike value read is =
     let name = bind-output (text value) (λ s. of_type (direction_named s)) read is in
@@ -87,8 +87,8 @@ net_spec-output value spec is =
     let rules = listed-output (net_rule Egress) (codes "egress") value egress.first egress.here in
     let none = none-each_item policy_type (items_at (codes "policyTypes") value) types.first items in
     let no_rule = none-each_item (net_rule Egress) (items_at (codes "egress") value) egress.first rules in
-    let lists_ingress = list_any-each_item policy_type (λ listed. is_same listed Ingress) (λ d. is_text d (codes "Ingress")) ingress_alike 0 (items_at (codes "policyTypes") value) types.first items in
-    let lists_egress = list_any-each_item policy_type (λ listed. is_same listed Egress) (λ d. is_text d (codes "Egress")) egress_alike 0 (items_at (codes "policyTypes") value) types.first items in
+    let lists_ingress = list_any-each_item policy_type (λ listed. is_same_direction listed Ingress) (λ d. is_text d (codes "Ingress")) ingress_alike 0 (items_at (codes "policyTypes") value) types.first items in
+    let lists_egress = list_any-each_item policy_type (λ listed. is_same_direction listed Egress) (λ d. is_text d (codes "Egress")) egress_alike 0 (items_at (codes "policyTypes") value) types.first items in
     subst (IsSpecOf value) made (record {
       subject = selected (member_of (codes "podSelector") value) pods.first (optional-output selector (codes "podSelector") value pods.first pods.here);
       ingress = rw (none, lists_ingress) refl;

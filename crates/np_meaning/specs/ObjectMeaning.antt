@@ -11,7 +11,7 @@ use Rattle.np_meaning.specs.Types.{Address, Backend, IngressItem, Named, NamedPo
 use Rattle.np_json.specs.Prelude.{member_of}
 use Rattle.np_labels.specs.Prelude.{meets_selector, value_of}
 use Rattle.np_labels.specs.declared.selector.Selector.{Selector}
-use Rattle.np_objects.specs.Prelude.{has_address, is_same}
+use Rattle.np_objects.specs.Prelude.{has_address, is_same_address}
 use Rattle.np_meaning.specs.EachPod.{AreEach}
 use Rattle.np_meaning.specs.MemberMeaning.{entries_at, named_or_default, number_at, object_at, protocol_of, spec_of, text_at}
 
@@ -69,7 +69,7 @@ pub record IsContainerPort (entry : Data) (port : NamedPort) : Type 0 where
 -- whether a text writes an address; the empty text writes none
 abbrev pub is_address : List ℕ → Address → Bool
 is_address [] address = false
-is_address (byte ∷ bytes) address = unwrap_or (option_map (λ other. is_same other address) (address_of (byte ∷ bytes))) false
+is_address (byte ∷ bytes) address = unwrap_or (option_map (λ other. is_same_address other address) (address_of (byte ∷ bytes))) false
 
 -- whether `podIP` or an item of `podIPs` is an address
 abbrev pub says_address : Data → Address → Bool

@@ -7,7 +7,7 @@ ghost use Rattle.np_items.specs.Prelude.{items_of};
 ghost use Rattle.np_items.specs.declared.item.Item.{Item};
 ghost use Rattle.np_meaning.specs.Prelude.{AreNumbered, HasTemplatePod, HoldsEachPod, IsControllerOf, IsIngressOf, IsNamespaceOf, IsOfItsKind, IsPodOf, IsServiceOf};
 ghost use Rattle.np_names.specs.Names.{wish_at};
-ghost use Rattle.np_objects.specs.Prelude.{controller, ingress, namespace, object_of, pod, service};
+ghost use Rattle.np_objects.specs.Prelude.{controller, ingress, namespace_object, object_of, pod, service};
 ghost use Rattle.np_objects.specs.declared.controller.ControllerItem.{ControllerItem};
 ghost use Rattle.np_objects.specs.declared.controller.ControllerKind.{ControllerKind};
 ghost use Rattle.np_model.specs.declared.ingress.IngressItem.{IngressItem};
@@ -32,7 +32,7 @@ pub fn pods_mean_their_members()
 
 /// A namespace that was read has the name and the labels of its metadata.
 pub fn namespaces_mean_their_members()
-    ensures { (value : Data) (read : NamespaceItem) → namespace value ≡ Ok read → IsNamespaceOf value read }
+    ensures { (value : Data) (read : NamespaceItem) → namespace_object value ≡ Ok read → IsNamespaceOf value read }
 {}
 
 /// A service that was read has a selector that is met exactly by the labels that have all of `selector`, and none where that

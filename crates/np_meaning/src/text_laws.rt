@@ -7,7 +7,7 @@ ghost use Rattle.np_fold.specs.Prelude.{folding_of};
 ghost use Rattle.np_meaning.specs.Prelude.{IsEndOf, IsRangeOf, IsRowOf, IsSpan};
 ghost use Rattle.np_model.specs.Prelude.{IsFew, IsLawful};
 ghost use Rattle.np_model.specs.declared.lists.EstateLists.{EstateLists};
-ghost use Rattle.np_report.specs.Prelude.{end_text, ends_text, names_of, row_text, span_text};
+ghost use Rattle.np_report.specs.Prelude.{ends_text, names_of, row_end_text, row_text, span_text};
 ghost use Rattle.np_routes.specs.Prelude.{cluster_rows, cluster_table};
 ghost use Rattle.np_table.specs.Prelude.{all_rows, estate_table};
 ghost use Rattle.np_table.specs.declared.rows.AddressSpan.{AddressSpan};
@@ -27,7 +27,7 @@ pub fn one_text_has_one_span()
 /// its name, that of a range of addresses or of the controller of Ingresses.
 pub fn one_text_has_one_end()
     ensures { (lists : EstateLists) (report : Report) (a b : RowEnd) → IsFew lists → IsEndOf lists a → IsEndOf lists b →
-        end_text (names_of (folding_of lists)) report a ≡ end_text (names_of (folding_of lists)) report b → a ≡ b }
+        row_end_text (names_of (folding_of lists)) report a ≡ row_end_text (names_of (folding_of lists)) report b → a ≡ b }
 {}
 
 /// The texts of a row are those of no other row: they tell its ends, the family that it is of, if it is of one alone, and its

@@ -47,14 +47,14 @@ SaysItsNamespace pod = value_of pod.namespace_labels (codes "kubernetes.io/metad
 -- ---- policies and services
 
 -- whether the first order decides, or leaves it to the second
-abbrev pub comes_before : Ordering → Ordering → Bool
-comes_before Less second = true
-comes_before Equal Less = true
-comes_before first second = false
+abbrev pub decides_before : Ordering → Ordering → Bool
+decides_before Less second = true
+decides_before Equal Less = true
+decides_before first second = false
 
 -- a policy stands before another: by its namespace, and in one namespace by its name, in the order of their bytes
-abbrev pub StandsBefore : NetPolicy → NetPolicy → Type 0
-StandsBefore a b = IsTrue (comes_before (slice_cmp nat_cmp a.namespace b.namespace) (slice_cmp nat_cmp a.name b.name))
+abbrev pub PolicyStandsBefore : NetPolicy → NetPolicy → Type 0
+PolicyStandsBefore a b = IsTrue (decides_before (slice_cmp nat_cmp a.namespace b.namespace) (slice_cmp nat_cmp a.name b.name))
 
 abbrev pub AreNamesApart : AdminPolicy → AdminPolicy → Type 0
 AreNamesApart a b = IsTrue (not (bytes_eq a.name b.name))
@@ -104,7 +104,7 @@ pub record IsLawful (lists : EstateLists) : Type 0 where
   -- among these labels is the name of the namespace
   pub namespaces_named : All SaysItsNamespace lists.pods
   -- NetworkPolicies stand in the order of their namespaces and names, no two with the same
-  pub net_policies_ascend : AllPairs StandsBefore lists.net_policies
+  pub net_policies_ascend : AllPairs PolicyStandsBefore lists.net_policies
   -- admin policies stand in the order of their priorities, no two with the same
   pub admin_policies_ascend : HasAscendingPriorities lists.admin_policies
   -- no two admin policies have one name

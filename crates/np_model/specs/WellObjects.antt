@@ -25,11 +25,11 @@ abbrev pub is_well_labels : List Pair → Bool
 is_well_labels labels = list_all is_well_label labels
 
 -- a key that is a word and not empty, and values that are words, ascend, and are as many as its op may have
-abbrev pub is_well_requirement : Requirement → Bool
-is_well_requirement requirement = is_whole_word requirement.key && list_all is_word requirement.values && demand.is_well_requirement requirement
+abbrev pub is_worded_requirement : Requirement → Bool
+is_worded_requirement requirement = is_whole_word requirement.key && list_all is_word requirement.values && demand.is_well_requirement requirement
 
-abbrev pub is_well_selector : Selector → Bool
-is_well_selector selector = list_all is_well_requirement selector.requirements
+abbrev pub is_worded_selector : Selector → Bool
+is_worded_selector selector = list_all is_worded_requirement selector.requirements
 
 abbrev pub is_well_port : NamedPort → Bool
 is_well_port port = is_whole_word port.name
@@ -45,7 +45,7 @@ abbrev pub is_well_service_port : ServicePort → Bool
 is_well_service_port port = option_all is_whole_word port.name && is_well_target port.target
 
 abbrev pub is_well_service : ServiceItem → Bool
-is_well_service service = is_name service.namespace && is_name service.name && option_all is_well_selector service.selector && list_all is_well_service_port service.ports
+is_well_service service = is_name service.namespace && is_name service.name && option_all is_worded_selector service.selector && list_all is_well_service_port service.ports
 
 -- the names in its backends may be any texts
 abbrev pub is_well_ingress : IngressItem → Bool

@@ -28,7 +28,7 @@ is_worded one = is_whole_word one.key && list_all is_word one.values
 
 -- requirements that are well formed, of words
 abbrev pub is_well_selector : Selector → Bool
-is_well_selector selector = labels.is_well_selector selector && list_all is_worded selector.requirements
+is_well_selector selector = labels.has_well_requirements selector && list_all is_worded selector.requirements
 
 -- a length that the family has, and no bit behind that many
 abbrev pub is_well_cidr : Cidr → Bool

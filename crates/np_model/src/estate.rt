@@ -2,7 +2,7 @@
 ghost use Rattle.std.specs.Prelude.{◌≡◌, ◌<◌, ◌^◌, length, AllPairs, IfSome};
 ghost use Rattle.std.specs.Option.{option_copied};
 ghost use Rattle.np_model.specs.Families.{families_of};
-ghost use Rattle.np_model.specs.Lawful.{HasAscendingPriorities, StandsBefore};
+ghost use Rattle.np_model.specs.Lawful.{HasAscendingPriorities, PolicyStandsBefore};
 ghost use Rattle.np_model.specs.PodPlaces as places;
 
 use crate::admin_policy::{AdminPolicy, BasePolicy};
@@ -42,18 +42,18 @@ impl Model for Estate {
     ghost Value = { EstateLists };
 
     ghost use Rattle.np_model.specs.Families.{families_of};
-    ghost use Rattle.np_model.specs.Lawful.{HasAscendingPriorities, StandsBefore};
+    ghost use Rattle.np_model.specs.Lawful.{HasAscendingPriorities, PolicyStandsBefore};
 
     ghost view = { λ e. e.lists };
 
-    ghost invariant = { λ e. (e.families.now ≡ families_of e.lists.pods) × HasAscendingPriorities e.lists.admin_policies × AllPairs StandsBefore e.lists.net_policies };
+    ghost invariant = { λ e. (e.families.now ≡ families_of e.lists.pods) × HasAscendingPriorities e.lists.admin_policies × AllPairs PolicyStandsBefore e.lists.net_policies };
 }
 
 impl Estate {
     /// The estate of these lists. It takes no memory.
     pub fn of(lists: EstateLists) -> Estate
         requires admin_policies { HasAscendingPriorities lists.admin_policies }
-        requires net_policies { AllPairs StandsBefore lists.net_policies }
+        requires net_policies { AllPairs PolicyStandsBefore lists.net_policies }
         ensures { result ≡ lists }
     {
         let families = families_of(lists.pods.items());
@@ -88,7 +88,7 @@ impl Estate {
     /// The NetworkPolicies, in the strict order of their namespaces and names.
     pub fn net_policies(&self) -> &[NetPolicy]
         ensures value { result.now ≡ self.now.net_policies }
-        ensures ascending { AllPairs StandsBefore self.now.net_policies }
+        ensures ascending { AllPairs PolicyStandsBefore self.now.net_policies }
     {
         self.lists.net_policies.items()
     }

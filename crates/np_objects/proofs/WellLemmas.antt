@@ -9,13 +9,13 @@ use Rattle.std.specs.declared.cmp.Ordering.TheVariants.{Less, Equal, Greater}
 use Rattle.std.proofs.lemmas.Bool.{and_from, and_parts}
 use Rattle.std.proofs.lemmas.List.Folds.{list_all-append}
 use Rattle.serde_json.specs.Data.{Data}
-use Rattle.np_objects.specs.Prelude.{ControllerKind, ControllerMetadata, ControllerSpec, CronJob, DaemonSet, Dependent, Deployment, IsWellObject, Job, Named, Number, Object, ObjectKind, OwnerReference, Pair, PodMetadata, PodSpec, Proto, ReplicaSet, ReplicationController, ServiceSpec, StatefulSet, Tcp, by_name, by_number, container, container_port, controller, controller_metadata, controller_spec, cron_job_spec, if_named, ingress, is_text, is_well_controller, is_well_namespace, is_well_object, is_well_owner, is_well_pod, is_well_template, is_zero, job_template, label_map, names_owner, namespace, namespace_metadata, no_spec, object_by, object_kind, object_of, owner_of, owner_reference, pod, pod_metadata, pod_spec, port_name, replicated_spec, selector_of, service, service_port, service_spec, target_by, target_port, template, template_metadata, template_spec, unless_empty}
+use Rattle.np_objects.specs.Prelude.{ControllerKind, ControllerMetadata, ControllerSpec, CronJob, DaemonSet, Dependent, Deployment, IsWellObject, Job, Named, Number, Object, ObjectKind, OwnerReference, Pair, PodMetadata, PodSpec, Proto, ReplicaSet, ReplicationController, ServiceSpec, StatefulSet, Tcp, by_name, by_number, container, container_port, controller, controller_metadata, controller_spec, cron_job_spec, if_named, ingress, is_text, is_well_controller, is_well_namespace, is_well_object, is_well_owner, is_well_pod, is_well_template, is_zero, job_template, label_map, names_owner, namespace_metadata, namespace_object, no_spec, object_by, object_kind, object_of, owner_of, owner_reference, pod, pod_metadata, pod_spec, port_name, replicated_spec, selector_of, service, service_port, service_spec, target_by, target_port, template, template_metadata, template_spec, unless_empty}
 use Rattle.np_json.specs.Prelude.{GivesItem, Read, as_whole, labels, must_be_object, name, namespaced_name, optional, port, protocol_name, required, text, whole}
-use Rattle.np_model.specs.Prelude.{is_label, is_name, is_well_ingress, is_well_label, is_well_labels, is_well_port, is_well_ports, is_well_requirement, is_well_service, is_well_service_port, is_well_target, is_whole_word, is_word, option_all}
+use Rattle.np_model.specs.Prelude.{is_label, is_name, is_well_ingress, is_well_label, is_well_labels, is_well_port, is_well_ports, is_well_service, is_well_service_port, is_well_target, is_whole_word, is_word, is_worded_requirement, option_all}
 use Rattle.np_json.specs.declared.fault.ReadFault.{ReadFault}
 use Rattle.np_json.proofs.ReadLemmas.{is_well_own}
 use Rattle.np_labels.specs.Prelude.{label_requirement, pair_of, with_pair}
-use Rattle.np_model.specs.WellObjects.{is_well_selector}
+use Rattle.np_model.specs.WellObjects.{is_worded_selector}
 use Rattle.np_objects.specs.declared.kind.ObjectKind.TheVariants as kind
 use Rattle.np_objects.specs.declared.object.Object.TheVariants as object
 use Rattle.np_objects.specs.declared.owner_reference.Dependent.TheVariants as dependent
@@ -182,8 +182,8 @@ namespace_metadata-well value =
     ReadsOnly-bind (option_all is_well_labels) is_well_namespace _ _ (ReadsOnly-optional is_well_labels (codes "labels") label_map value label_map-well) (λ found found_well.
     ReadsOnly-Ok is_well_namespace _ (and_from _ _ called_well (unwrapped is_well_labels found [] found_well refl)))))
 
-namespace-well : (value : Data) → ReadsOnly is_well_namespace (namespace value)
-unfolding namespace
+namespace-well : (value : Data) → ReadsOnly is_well_namespace (namespace_object value)
+unfolding namespace_object
 namespace-well value = ReadsOnly-required is_well_namespace (codes "metadata") namespace_metadata value namespace_metadata-well
 
 -- ---- controllers
@@ -303,23 +303,23 @@ service_port-well value =
     ReadsOnly-Ok is_well_service_port (record { name = option_flatten called; proto = unwrap_or proto Tcp; port = number; target = unwrap_or (option_flatten target) (Number number) })
     (and_from _ _ (flattened is_whole_word called called_well) (unwrapped is_well_target (option_flatten target) (Number number) (flattened is_well_target target target_well) refl)))))))
 
-requirement-well : (entry : List ℕ × List ℕ) → is_label entry ≡ true → is_well_requirement (label_requirement entry) ≡ true
+requirement-well : (entry : List ℕ × List ℕ) → is_label entry ≡ true → is_worded_requirement (label_requirement entry) ≡ true
 requirement-well entry is =
     let parts = and_parts (is_whole_word entry.0) (is_word entry.1) is in
     and_from (is_whole_word entry.0 && (is_word entry.1 && true)) true (and_from (is_whole_word entry.0) (is_word entry.1 && true) parts.0 (and_from (is_word entry.1) true parts.1 refl)) refl
 
-requirements-well : (entries : List (List ℕ × List ℕ)) → list_all is_label entries ≡ true → list_all is_well_requirement (map label_requirement entries) ≡ true
+requirements-well : (entries : List (List ℕ × List ℕ)) → list_all is_label entries ≡ true → list_all is_worded_requirement (map label_requirement entries) ≡ true
 requirements-well [] all = refl
 requirements-well (entry ∷ entries) all =
     let parts = and_parts (is_label entry) (list_all is_label entries) all in
-    and_from (is_well_requirement (label_requirement entry)) (list_all is_well_requirement (map label_requirement entries)) (requirement-well entry parts.0) (requirements-well entries parts.1)
+    and_from (is_worded_requirement (label_requirement entry)) (list_all is_worded_requirement (map label_requirement entries)) (requirement-well entry parts.0) (requirements-well entries parts.1)
 
-selector-well : (entries : List (List ℕ × List ℕ)) → list_all is_label entries ≡ true → option_all is_well_selector (selector_of entries) ≡ true
+selector-well : (entries : List (List ℕ × List ℕ)) → list_all is_label entries ≡ true → option_all is_worded_selector (selector_of entries) ≡ true
 selector-well [] all = refl
 selector-well (entry ∷ entries) all = requirements-well (entry ∷ entries) all
 
 abbrev has_well_members : ServiceSpec → Bool
-has_well_members spec = option_all is_well_selector spec.selector && list_all is_well_service_port spec.ports
+has_well_members spec = option_all is_worded_selector spec.selector && list_all is_well_service_port spec.ports
 
 service_spec-well : (value : Data) → ReadsOnly has_well_members (service_spec value)
 unfolding service_spec
@@ -342,7 +342,7 @@ unfolding service
 service-well value =
     ReadsOnly-bind is_well_own is_well_service _ _ (ReadsOnly-required is_well_own (codes "metadata") namespaced_name value ReadsOnly-namespaced_name) (λ own own_well.
     ReadsOnly-bind has_well_members is_well_service _ _ (ReadsOnly-required has_well_members (codes "spec") service_spec value service_spec-well) (λ spec spec_well.
-    let parts = and_parts (option_all is_well_selector spec.selector) (list_all is_well_service_port spec.ports) spec_well in
+    let parts = and_parts (option_all is_worded_selector spec.selector) (list_all is_well_service_port spec.ports) spec_well in
     ReadsOnly-Ok is_well_service _ (and_from _ _ (and_from _ _ own_well parts.0) parts.1)))
 
 -- ---- ingresses

@@ -19,10 +19,10 @@ is_numbered Wrong = true
 is_numbered (Given n) = not (is_zero (Some n))
 
 -- whether there is a name; the empty one counts as missing
-abbrev pub is_named : Field (List ℕ) → Bool
-is_named Missing = false
-is_named Wrong = true
-is_named (Given s) = not (length s == 0)
+abbrev pub has_a_name : Field (List ℕ) → Bool
+has_a_name Missing = false
+has_a_name Wrong = true
+has_a_name (Given s) = not (length s == 0)
 
 -- whether exactly one of the two holds
 abbrev pub is_one : Bool → Bool → Bool
@@ -37,7 +37,7 @@ number_or_name false value = do Ok (Named (← required (codes "name") text valu
 -- a port of a service: exactly one of its number and its name
 unfoldable pub backend_port : Data → Read PortName
 backend_port value = must_be_object value >> do
-  refuse_if (not (is_one (is_numbered (whole_of (codes "number") value)) (is_named (text_of (codes "name") value)))) BadField
+  refuse_if (not (is_one (is_numbered (whole_of (codes "number") value)) (has_a_name (text_of (codes "name") value)))) BadField
   number_or_name (is_numbered (whole_of (codes "number") value)) value
 
 -- a service, and one of its ports

@@ -11,5 +11,5 @@ namespace_metadata value = must_be_object value >> do
   Ok (record { name = (← required (codes "name") name value); labels = unwrap_or (← optional (codes "labels") label_map value) [] })
 
 -- a namespace, of which the metadata alone is read
-unfoldable pub namespace : Data → Read NamespaceItem
-namespace value = required (codes "metadata") namespace_metadata value
+unfoldable pub namespace_object : Data → Read NamespaceItem
+namespace_object value = required (codes "metadata") namespace_metadata value

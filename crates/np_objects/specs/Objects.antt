@@ -7,7 +7,7 @@ use Rattle.np_json.specs.Prelude.{Read, type_meta, ◌>>=◌}
 use Rattle.np_objects.specs.ControllerKinds.{kind_name}
 use Rattle.np_objects.specs.Controllers.{controller}
 use Rattle.np_objects.specs.Ingresses.{ingress}
-use Rattle.np_objects.specs.Namespaces.{namespace}
+use Rattle.np_objects.specs.Namespaces.{namespace_object}
 use Rattle.np_objects.specs.Pods.{pod}
 use Rattle.np_objects.specs.Services.{service}
 use Rattle.np_objects.specs.Types.{ControllerKind, CronJob, DaemonSet, Deployment, Job, Object, ObjectKind, ReplicaSet, ReplicationController, StatefulSet}
@@ -36,7 +36,7 @@ object_kind version name = lookup (bytes_eq name) (kinds_of version)
 unfoldable pub object_by : Option ObjectKind → Data → Read Object
 object_by None value = Ok object.Other
 object_by (Some kind.Pod) value = do Ok (object.Pod (← pod value))
-object_by (Some kind.Namespace) value = do Ok (object.Namespace (← namespace value))
+object_by (Some kind.Namespace) value = do Ok (object.Namespace (← namespace_object value))
 object_by (Some (kind.Controller which)) value = do Ok (object.Controller (← controller which value))
 object_by (Some kind.Service) value = do Ok (object.Service (← service value))
 object_by (Some kind.Ingress) value = do Ok (object.Ingress (← ingress value))

@@ -22,25 +22,25 @@ address value = do address_by (unless_empty (← text value))
 unfoldable pub pod_ip : Data → Read (Option Address)
 pod_ip value = must_be_object value >> do Ok (option_flatten (← optional (codes "ip") address value))
 
-abbrev pub is_same : Address → Address → Bool
-is_same (Four a) (Four b) = a == b
-is_same (Six a) (Six b) = a == b
-is_same a b = false
+abbrev pub is_same_address : Address → Address → Bool
+is_same_address (Four a) (Four b) = a == b
+is_same_address (Six a) (Six b) = a == b
+is_same_address a b = false
 
 abbrev pub has_address : List Address → Address → Bool
-has_address addresses address = list_any (λ other. is_same other address) addresses
+has_address addresses address = list_any (λ other. is_same_address other address) addresses
 
 -- the addresses so far and one more, unless it is among them
-abbrev pub with_address : List Address → Address → List Address
-with_address kept address = if has_address kept address then kept else kept ++ address ∷ []
+abbrev pub with_found_address : List Address → Address → List Address
+with_found_address kept address = if has_address kept address then kept else kept ++ address ∷ []
 
 -- the addresses so far and one more, if there is one
 abbrev pub kept_with : List Address → Option Address → List Address
-kept_with kept found = option_map_or (with_address kept) found kept
+kept_with kept found = option_map_or (with_found_address kept) found kept
 
 -- the addresses that are there, each once, where it stands first
-abbrev pub distinct : List (Option Address) → List Address
-distinct found = fold kept_with [] found
+abbrev pub distinct_addresses : List (Option Address) → List Address
+distinct_addresses found = fold kept_with [] found
 
 -- whether two lists have the same addresses
 pub record HaveSame (kept known : List Address) : Type 0 where
@@ -55,7 +55,7 @@ unfoldable pub pod_status : Data → Read PodStatus
 pod_status value = must_be_object value >> do
   phase ← optional (codes "phase") text value
   first ← optional (codes "podIP") address value
-  Ok (record { finished = is_finished phase; addresses = distinct (option_flatten first ∷ (← listed (codes "podIPs") pod_ip value)) })
+  Ok (record { finished = is_finished phase; addresses = distinct_addresses (option_flatten first ∷ (← listed (codes "podIPs") pod_ip value)) })
 
 -- what a pod without a status has
 abbrev pub no_status : PodStatus

@@ -14,7 +14,7 @@ pub(crate) fn distinct(
     first: Option<Address>,
     others: Seq<Option<Address>>,
 ) -> Result<Seq<Address>, NoMemory>
-    ensures { IfOk result (λ made. made ≡ statuses.distinct (first ∷ others)) }
+    ensures { IfOk result (λ made. made ≡ statuses.distinct_addresses (first ∷ others)) }
 {
     let mut kept = Seq::new(alloc);
     let mut known = BTreeSet::new(alloc);

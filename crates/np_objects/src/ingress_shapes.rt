@@ -54,7 +54,7 @@ fn is_numbered(port: &Value) -> bool
 
 // Whether there is a name; the empty one counts as missing.
 fn is_named(port: &Value) -> bool
-    ensures { result ≡ ingresses.is_named (text_of (codes "name") (view port.now)) }
+    ensures { result ≡ ingresses.has_a_name (text_of (codes "name") (view port.now)) }
 {
     match text_field(port, "name") {
         Field::Missing => false,

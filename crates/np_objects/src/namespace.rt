@@ -52,13 +52,13 @@ impl Shape for NamespaceMetadataShape {
 pub(crate) struct NamespaceShape;
 
 impl Shape for NamespaceShape {
-    ghost use Rattle.np_objects.specs.Namespaces.{namespace};
+    ghost use Rattle.np_objects.specs.Namespaces.{namespace_object};
 
     type Output = NamespaceItem;
 
-    ghost reads = { λ _. namespace };
+    ghost reads = { λ _. namespace_object };
 
-    #[tactic(auto, unfolding(crate::specs::Namespaces::namespace))]
+    #[tactic(auto, unfolding(crate::specs::Namespaces::namespace_object))]
     fn read(&self, alloc: Global, value: &Value) -> Result<NamespaceItem, ShapeFault> {
         required(alloc, value, "metadata", &NamespaceMetadataShape)
     }

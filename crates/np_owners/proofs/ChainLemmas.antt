@@ -8,14 +8,14 @@ use Rattle.std.proofs.lemmas.List.{get_or-map, length-map, take_more, map-append
 use Rattle.std.proofs.lemmas.List.Quantifiers.{position-Some}
 use Rattle.std.proofs.lemmas.Option.{option_and_then_some, slice_get_read}
 use Rattle.std.proofs.lemmas.Simd.{map-map}
-use Rattle.np_owners.specs.Prelude.{IsChains, Item, ObjectName, Owner, OwnerRef, controller_place, first_cycle, first_in_cycle, full_name_of, is_named, last_owner, name_of, owner_of, owner_place, place_in_namespace, place_of, places, top, top_owners, ups}
+use Rattle.np_owners.specs.Prelude.{IsChains, Item, ObjectName, Owner, OwnerRef, controller_place, first_cycle, first_in_cycle, full_name_of, is_item_named, last_owner, name_of_item, owner_of_item, owner_place, place_in_namespace, place_of, places_of_owners, top, top_owners, ups}
 use Rattle.np_objects.specs.Prelude.{is_controller_kind}
 
 -- ---- what owns an item is an item
 
 place_within : (items : List Item) (name : ObjectName) (place : ℕ) → place_of items name ≡ Some place → place < length items
 place_within [] name place is = cc
-place_within (one ∷ items) name place is = (position-Some (is_named name) (one ∷ items) place one is).0
+place_within (one ∷ items) name place is = (position-Some (is_item_named name) (one ∷ items) place one is).0
 
 controller_within : (items : List Item) (namespace : List ℕ) (owner : OwnerRef) (place : ℕ) → controller_place items namespace owner ≡ Some place → place < length items
 controller_within items namespace owner place is = by (is_controller_kind owner.kind) is
@@ -29,8 +29,8 @@ controller_within items namespace owner place is = by (is_controller_kind owner.
 
 owner_within : (items : List Item) (one : Item) (place : ℕ) → owner_place items one ≡ Some place → place < length items
 owner_within items one place is =
-    option_and_then_some (place_in_namespace items (owner_of one)) (name_of one) place is
-    (λ name named found. option_and_then_some (controller_place items name.namespace) (owner_of one) place found
+    option_and_then_some (place_in_namespace items (owner_of_item one)) (name_of_item one) place is
+    (λ name named found. option_and_then_some (controller_place items name.namespace) (owner_of_item one) place found
     (λ owner owned at. controller_within items name.namespace owner place at))
 
 -- the owners of items are chains
@@ -99,8 +99,8 @@ top_within items chains tops shown are all same i below =
     rw long at within
 
 -- the owners at all tops
-pub owners_at_tops : (items : List Item) (tops : List ℕ) → tops ≡ map (top (ups items)) (places (ups items)) → map (owner_at items) tops ≡ top_owners items
+pub owners_at_tops : (items : List Item) (tops : List ℕ) → tops ≡ map (top (ups items)) (places_of_owners (ups items)) → map (owner_at items) tops ≡ top_owners items
 owners_at_tops items tops are =
     ap (map (owner_at items)) are
-    ∙ map-map (owner_at items) (top (ups items)) (places (ups items))
+    ∙ map-map (owner_at items) (top (ups items)) (places_of_owners (ups items))
     ∙ ap (λ n. map (λ place. owner_at items (top (ups items) place)) (range_with_len 0 n)) (length-map items (owner_place items))

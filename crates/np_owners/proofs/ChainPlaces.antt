@@ -8,7 +8,7 @@ use Rattle.std.proofs.lemmas.List.{same_lists, get_or_default}
 use Rattle.std.proofs.lemmas.List.Folds.{list_any-append}
 use Rattle.std.proofs.lemmas.List.FromFn.{length-map-range_with_len, get_or-map-range_with_len}
 use Rattle.np_base.proofs.Lists.{range-more}
-use Rattle.np_owners.specs.Prelude.{is_at_or_over, is_marked, places}
+use Rattle.np_owners.specs.Prelude.{is_at_or_over, is_marked, places_of_owners}
 
 -- one place more passes or not
 any_more : (test : ℕ → Bool) (n : ℕ) → list_any test (range_with_len 0 (n + 1)) ≡ (list_any test (range_with_len 0 n) || test n)
@@ -44,7 +44,7 @@ start_step ups lent same starts old before new kept n start marked so_far above 
 
 -- marks are the list of what holds of each place
 pub marks_are : (test : ℕ → Bool) (ups : List (Option ℕ)) (marks : List Bool) → length marks ≡ length ups → ((place : ℕ) → place < length ups → is_marked marks place ≡ test place) →
-    marks ≡ map test (places ups)
+    marks ≡ map test (places_of_owners ups)
 marks_are test ups marks long each =
-    same_lists marks (map test (places ups)) (long ∙ sym (length-map-range_with_len test 0 (length ups)))
+    same_lists marks (map test (places_of_owners ups)) (long ∙ sym (length-map-range_with_len test 0 (length ups)))
     (λ k d below. get_or_default marks k d false below ∙ each k (rw long at below) ∙ sym (get_or-map-range_with_len test 0 (length ups) k k d (rw long at below) (zero-add k)))

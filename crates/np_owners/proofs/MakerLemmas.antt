@@ -5,14 +5,14 @@ use Rattle.std.proofs.Math.Nat.{zero-add}
 use Rattle.std.proofs.lemmas.List.{get_or-map, length-map}
 use Rattle.std.proofs.lemmas.List.FromFn.{length-map-range_with_len, get_or-map-range_with_len}
 use Rattle.std.proofs.lemmas.Option.{slice_get_read}
-use Rattle.np_owners.specs.Prelude.{Item, has_pods, is_over_some, is_pod, makes_pod, owner_place, places, up, ups, wants_pods}
+use Rattle.np_owners.specs.Prelude.{Item, has_pods, is_over_some, is_pod, makes_pod, owner_place, places_of_owners, up, ups, wants_pods}
 
 none_is : (o : Option ℕ) → not (is_some o) ≡ is_none o
 none_is None = refl
 none_is (Some x) = refl
 
 -- there is a mark for each item
-pub marks_long : (items : List Item) (marks : List Bool) → marks ≡ map (is_over_some (ups items) (map is_pod items)) (places (ups items)) → length marks ≡ length items
+pub marks_long : (items : List Item) (marks : List Bool) → marks ≡ map (is_over_some (ups items) (map is_pod items)) (places_of_owners (ups items)) → length marks ≡ length items
 marks_long items marks are =
     ap length are ∙ length-map-range_with_len (is_over_some (ups items) (map is_pod items)) 0 (length (ups items)) ∙ length-map items (owner_place items)
 
@@ -31,7 +31,7 @@ module _ (items : List Item) (place : ℕ) (one : Item) (within : place < length
       rw (slice_get_read (ups items) (length items) place (owner one) (sym (length-map items owner)) within read) refl
 
   -- what the mark of a place says
-  pub mark_at : (marks : List Bool) (d : Bool) → marks ≡ map (is_over_some (ups items) (map is_pod items)) (places (ups items)) → get_or marks place d ≡ has_pods items place
+  pub mark_at : (marks : List Bool) (d : Bool) → marks ≡ map (is_over_some (ups items) (map is_pod items)) (places_of_owners (ups items)) → get_or marks place d ≡ has_pods items place
   mark_at marks d are =
       ap (λ (all : List Bool). get_or all place d) are
       ∙ ap (λ n. get_or (map (is_over_some (ups items) (map is_pod items)) (range_with_len 0 n)) place d) (length-map items (owner_place items))

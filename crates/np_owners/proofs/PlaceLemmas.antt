@@ -9,7 +9,7 @@ use Rattle.std.proofs.lemmas.Iterator.Adapters.{position_from-zero}
 use Rattle.std.proofs.lemmas.Map.Text.{is_eq-slice_cmp}
 use Rattle.np_base.proofs.Lists.{position_from-push}
 use Rattle.np_base.proofs.Options.{option_or-none}
-use Rattle.np_owners.specs.Prelude.{HoldsPlaces, Item, ObjectName, compare_names, is_named, name_of, noted_place, place_of, same_name}
+use Rattle.np_owners.specs.Prelude.{HoldsPlaces, Item, ObjectName, compare_names, is_item_named, name_of_item, noted_place, place_of, same_name}
 
 -- ---- names
 
@@ -40,22 +40,22 @@ equal_names a b same =
 -- ---- places
 
 -- one more item
-pub place_of-push : (items : List Item) (one : Item) (name : ObjectName) → place_of (items ++ one ∷ []) name ≡ option_or (place_of items name) (cond (is_named name one) (Some (length items)) None)
+pub place_of-push : (items : List Item) (one : Item) (name : ObjectName) → place_of (items ++ one ∷ []) name ≡ option_or (place_of items name) (cond (is_item_named name one) (Some (length items)) None)
 place_of-push items one name =
-    let test = is_named name in
+    let test = is_item_named name in
     position_from-zero test (items ++ one ∷ []) ∙ position_from-push test 0 items one
     ∙ ap (λ n. option_or (position_from test 0 items) (cond (test one) (Some n) None)) (zero-add (length items))
     ∙ ap (λ o. option_or o (cond (test one) (Some (length items)) None)) (sym (position_from-zero test items))
 
 -- and one of a new name has its own place
-pub HoldsPlaces-named : (earlier : List Item) (one : Item) (name : ObjectName) (before after : List (ObjectName × ℕ)) (place : ℕ) → length earlier ≡ place → name_of one ≡ Some name →
+pub HoldsPlaces-named : (earlier : List Item) (one : Item) (name : ObjectName) (before after : List (ObjectName × ℕ)) (place : ℕ) → length earlier ≡ place → name_of_item one ≡ Some name →
     noted_place before name ≡ None
     → ((other : ObjectName) → noted_place after other ≡ cond (is_eq (compare_names name other)) (Some place) (noted_place before other))
     → HoldsPlaces earlier before → HoldsPlaces (earlier ++ one ∷ []) after
 HoldsPlaces-named earlier one name before after place at named free noted places other =
     noted other ∙ rw (is_eq-compare_names name other, ← at) (by (same_name name other) refl)
   where
-    is_named-other : is_named other one ≡ same_name name other
+    is_named-other : is_item_named other one ≡ same_name name other
     is_named-other = rw named (same_name-sym other name)
 
     by : (b : Bool) → same_name name other ≡ b → cond b (Some (length earlier)) (noted_place before other) ≡ place_of (earlier ++ one ∷ []) other

@@ -4,8 +4,8 @@ use Rattle.std.specs.List.{list_any, range_with_len}
 use Rattle.std.specs.Option.{option_flatten, option_map_or, ForSome}
 
 -- the places of the list, in order
-abbrev pub places : List (Option ℕ) → List ℕ
-places ups = range_with_len 0 (length ups)
+abbrev pub places_of_owners : List (Option ℕ) → List ℕ
+places_of_owners ups = range_with_len 0 (length ups)
 
 -- what stands directly over a place; nothing does beyond the list
 abbrev pub up : List (Option ℕ) → ℕ → Option ℕ
@@ -35,7 +35,7 @@ owns_itself ups place = list_any (λ owner. nat_eq owner place) (owners ups plac
 
 -- the first place that owns itself
 abbrev pub first_cycle : List (Option ℕ) → Option ℕ
-first_cycle ups = find (owns_itself ups) (places ups)
+first_cycle ups = find (owns_itself ups) (places_of_owners ups)
 
 -- whether a place is the other one or one of its owners
 abbrev pub is_at_or_over : List (Option ℕ) → ℕ → ℕ → Bool
@@ -47,7 +47,7 @@ is_marked marks place = slice_index_or marks place false
 
 -- whether a place is a start or stands over one
 abbrev pub is_over_some : List (Option ℕ) → List Bool → ℕ → Bool
-is_over_some ups starts above = list_any (λ place. is_marked starts place && is_at_or_over ups above place) (places ups)
+is_over_some ups starts above = list_any (λ place. is_marked starts place && is_at_or_over ups above place) (places_of_owners ups)
 
 -- what stands directly over a place is a place of the list, and there are few enough places
 pub record IsChains (ups : List (Option ℕ)) : Type 0 where

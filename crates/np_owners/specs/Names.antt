@@ -17,37 +17,37 @@ use Rattle.np_owners.specs.declared.fault.PlacesFault.TheVariants.{Duplicate, No
 use Rattle.np_policies.specs.declared.policy.Policy.{Policy}
 use Rattle.np_policies.specs.declared.policy.Policy.TheVariants as policy
 
-abbrev pub named : List ℕ → List ℕ → List ℕ → Option ObjectName
-named kind namespace name = Some (record { kind = kind; namespace = namespace; name = name })
+abbrev pub object_named : List ℕ → List ℕ → List ℕ → Option ObjectName
+object_named kind namespace name = Some (record { kind = kind; namespace = namespace; name = name })
 
 -- the name of an object; one of the whole cluster has the empty namespace
-abbrev pub object_name : Object → Option ObjectName
-object_name (object.Pod pod) = named (codes "Pod") pod.namespace pod.name
-object_name (object.Namespace namespace) = named (codes "Namespace") [] namespace.name
-object_name (object.Controller controller) = named (kind_name controller.kind) controller.namespace controller.name
-object_name (object.Service service) = named (codes "Service") service.namespace service.name
-object_name (object.Ingress ingress) = named (codes "Ingress") ingress.namespace ingress.name
-object_name object.Other = None
+abbrev pub name_of_object : Object → Option ObjectName
+name_of_object (object.Pod pod) = object_named (codes "Pod") pod.namespace pod.name
+name_of_object (object.Namespace namespace) = object_named (codes "Namespace") [] namespace.name
+name_of_object (object.Controller controller) = object_named (kind_name controller.kind) controller.namespace controller.name
+name_of_object (object.Service service) = object_named (codes "Service") service.namespace service.name
+name_of_object (object.Ingress ingress) = object_named (codes "Ingress") ingress.namespace ingress.name
+name_of_object object.Other = None
 
 abbrev pub policy_name : Policy → Option ObjectName
-policy_name (policy.Net net) = named (codes "NetworkPolicy") net.namespace net.name
-policy_name (policy.Admin admin) = named (codes "AdminNetworkPolicy") [] admin.name
-policy_name (policy.Base base) = named (codes "BaselineAdminNetworkPolicy") [] (codes "default")
+policy_name (policy.Net net) = object_named (codes "NetworkPolicy") net.namespace net.name
+policy_name (policy.Admin admin) = object_named (codes "AdminNetworkPolicy") [] admin.name
+policy_name (policy.Base base) = object_named (codes "BaselineAdminNetworkPolicy") [] (codes "default")
 
 -- the name of an item, if it is of a kind that is read
-abbrev pub name_of : Item → Option ObjectName
-name_of (item.Object object) = object_name object
-name_of (item.Policy policy) = policy_name policy
+abbrev pub name_of_item : Item → Option ObjectName
+name_of_item (item.Object object) = name_of_object object
+name_of_item (item.Policy policy) = policy_name policy
 
 abbrev pub same_name : ObjectName → ObjectName → Bool
 same_name a b = bytes_eq a.kind b.kind && (bytes_eq a.namespace b.namespace && bytes_eq a.name b.name)
 
-abbrev pub is_named : ObjectName → Item → Bool
-is_named name one = option_map_or (same_name name) (name_of one) false
+abbrev pub is_item_named : ObjectName → Item → Bool
+is_item_named name one = option_map_or (same_name name) (name_of_item one) false
 
 -- the place, from 0, of the first item of a name
 abbrev pub place_of : List Item → ObjectName → Option ℕ
-place_of items name = position (is_named name) items
+place_of items name = position (is_item_named name) items
 
 -- the order of names, kind by kind
 abbrev pub compare_names : ObjectName → ObjectName → Ordering
@@ -63,7 +63,7 @@ HoldsPlaces items entries = (name : ObjectName) → noted_place entries name ≡
 
 -- the numbers, from 1, of an item and of one before it that has its name
 abbrev pub repeated : List Item → Item → Option (ℕ × ℕ)
-repeated earlier one = option_and_then (λ name. option_and_then (λ first. Some (first + 1, length earlier + 1)) (place_of earlier name)) (name_of one)
+repeated earlier one = option_and_then (λ name. option_and_then (λ first. Some (first + 1, length earlier + 1)) (place_of earlier name)) (name_of_item one)
 
 -- the first item of a list that has the name of an earlier one
 abbrev pub repeat_after : List Item → List Item → Option (ℕ × ℕ)

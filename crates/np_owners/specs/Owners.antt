@@ -7,17 +7,17 @@ use Rattle.np_owners.specs.Types.{Item, ObjectName, Owner, OwnerRef}
 use Rattle.np_items.specs.declared.item.Item.TheVariants as item
 use Rattle.np_objects.specs.Prelude.{is_controller_kind}
 use Rattle.np_objects.specs.declared.object.Object.TheVariants as object
-use Rattle.np_owners.specs.Names.{name_of, place_of}
+use Rattle.np_owners.specs.Names.{name_of_item, place_of}
 use Rattle.np_owners.specs.declared.fault.ChainsFault.{ChainsFault}
 use Rattle.np_owners.specs.declared.fault.ChainsFault.TheVariants.{OwnerCycle, NoMemory}
 
 -- ---- owners that items name
 
 -- the owner of an item
-abbrev pub owner_of : Item → Option OwnerRef
-owner_of (item.Object (object.Pod pod)) = pod.owner
-owner_of (item.Object (object.Controller controller)) = controller.owner
-owner_of other = None
+abbrev pub owner_of_item : Item → Option OwnerRef
+owner_of_item (item.Object (object.Pod pod)) = pod.owner
+owner_of_item (item.Object (object.Controller controller)) = controller.owner
+owner_of_item other = None
 
 -- ---- chains
 
@@ -31,7 +31,7 @@ place_in_namespace items owner name = option_and_then (controller_place items na
 
 -- the place of the listed controller that owns an item
 abbrev pub owner_place : List Item → Item → Option ℕ
-owner_place items one = option_and_then (place_in_namespace items (owner_of one)) (name_of one)
+owner_place items one = option_and_then (place_in_namespace items (owner_of_item one)) (name_of_item one)
 
 -- over each item the listed controller that owns it
 abbrev pub ups : List Item → List (Option ℕ)
@@ -44,7 +44,7 @@ abbrev pub full_name : ObjectName → List ℕ
 full_name name = name.namespace ++ codes "/" ++ name.name ++ codes "[" ++ name.kind ++ codes "]"
 
 abbrev pub full_name_of : Item → List ℕ
-full_name_of one = option_map_or full_name (name_of one) []
+full_name_of one = option_map_or full_name (name_of_item one) []
 
 -- the name of the first listed controller that stands in its own chain of owners
 abbrev pub first_in_cycle : List Item → Option (List ℕ)
@@ -60,12 +60,12 @@ TellsCycle found NoMemory = ⊤
 abbrev pub by_reference : OwnerRef → Owner
 by_reference owner = record { kind = owner.kind; name = owner.name }
 
-abbrev pub by_name : ObjectName → Owner
-by_name name = record { kind = name.kind; name = name.name }
+abbrev pub owner_named : ObjectName → Owner
+owner_named name = record { kind = name.kind; name = name.name }
 
 -- the owner that an item names, listed or not, or it itself where it names none
 abbrev pub last_owner : Item → Option Owner
-last_owner one = option_or (option_map by_reference (owner_of one)) (option_map by_name (name_of one))
+last_owner one = option_or (option_map by_reference (owner_of_item one)) (option_map owner_named (name_of_item one))
 
 -- the top owner of the item at a place: the last one that its chain reaches
 abbrev pub top_owner : List Item → ℕ → Option Owner

@@ -1,6 +1,6 @@
 //! Chains of owners, walked step by step.
 ghost use Rattle.std.specs.Prelude.{◌≡◌, ◌<◌, ℕ, length, map, ◌||◌, All, IfOk};
-ghost use Rattle.np_owners.specs.Chains.{IsChains, places, up, top, owns_itself, first_cycle, is_at_or_over, is_marked, is_over_some};
+ghost use Rattle.np_owners.specs.Chains.{IsChains, places_of_owners, up, top, owns_itself, first_cycle, is_at_or_over, is_marked, is_over_some};
 
 use np_base::NoMemory;
 use std::alloc::Global;
@@ -65,7 +65,7 @@ impl Chains {
     /// The last owner of each place, or the place itself where nothing stands over it, in the order of the places.
     /// Where a chain leads back, it is the place that as many steps as there are places lead to.
     pub fn tops(&self, alloc: Global) -> Result<Vec<u32>, NoMemory>
-        ensures exact { IfOk result (λ made. made.items ≡ map (top self.now) (places self.now)) }
+        ensures exact { IfOk result (λ made. made.items ≡ map (top self.now) (places_of_owners self.now)) }
         ensures within { IfOk result (λ made. All (λ place. place < length self.now) made.items) }
     {
         let mut made = Vec::with_capacity(alloc, self.ups.len())?;
@@ -79,7 +79,7 @@ impl Chains {
     /// it is a start.
     pub fn over_some(&self, alloc: Global, starts: &[bool]) -> Result<Vec<bool>, NoMemory>
         requires { length starts.now ≡ length self.now }
-        ensures { IfOk result (λ made. made.items ≡ map (is_over_some self.now starts.now) (places self.now)) }
+        ensures { IfOk result (λ made. made.items ≡ map (is_over_some self.now starts.now) (places_of_owners self.now)) }
     {
         let mut marks = vec![in alloc; false; self.ups.len()]?;
         for (place, is_start) in starts.iter().enumerate() {

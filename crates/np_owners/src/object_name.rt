@@ -20,7 +20,7 @@ pub struct ObjectName {
 
 /// The name of an item. `None` where it is of a kind that is not read.
 pub fn name_of(alloc: Global, item: &Item) -> Result<Option<ObjectName>, NoMemory>
-    ensures { IfOk result (λ name. name ≡ names.name_of item.now) }
+    ensures { IfOk result (λ name. name ≡ names.name_of_item item.now) }
 {
     match item {
         Item::Object(object) => name_of_object(alloc, object),
@@ -30,7 +30,7 @@ pub fn name_of(alloc: Global, item: &Item) -> Result<Option<ObjectName>, NoMemor
 
 // The name of an object that is no policy.
 fn name_of_object(alloc: Global, object: &Object) -> Result<Option<ObjectName>, NoMemory>
-    ensures { IfOk result (λ name. name ≡ names.object_name object.now) }
+    ensures { IfOk result (λ name. name ≡ names.name_of_object object.now) }
 {
     match object {
         Object::Pod(pod) => named(alloc, "Pod", pod.namespace.as_str(), pod.name.as_str()),
@@ -80,7 +80,7 @@ fn named(
     namespace: &str,
     name: &str,
 ) -> Result<Option<ObjectName>, NoMemory>
-    ensures { IfOk result (λ made. made ≡ names.named kind.now namespace.now name.now) }
+    ensures { IfOk result (λ made. made ≡ names.object_named kind.now namespace.now name.now) }
 {
     Ok(Some(ObjectName {
         kind: Text::of(alloc, kind)?,

@@ -8,7 +8,7 @@ use np_objects::{Object, OwnerRef};
 
 /// The owner of an item that its owner references name. Pods and controllers alone have one.
 pub(crate) fn owner_of(item: &Item) -> Option<&OwnerRef>
-    ensures { option_copied result ≡ owners.owner_of item.now }
+    ensures { option_copied result ≡ owners.owner_of_item item.now }
 {
     match item {
         Item::Object(Object::Pod(pod)) => pod.owner.as_ref(),

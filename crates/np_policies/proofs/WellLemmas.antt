@@ -7,7 +7,7 @@ use Rattle.std.proofs.lemmas.Bool.{not-false, and_from}
 use Rattle.serde_json.specs.Data.{Data, Items, no_items, item}
 use Rattle.serde_json.specs.Find.{as_object}
 use Rattle.np_addr.specs.Prelude.{IsCidr, first_bad_except}
-use Rattle.np_policies.specs.Prelude.{AdminPort, BadField, BadPort, BadSelector, Cidr, FaultKind, IpBlock, Name, NetPort, Number, Op, PortValue, Proto, Requirement, Selector, admin_port, admin_port_member, all_items, cidr, end_port, expression, fitting, has_other, ip_block, items_at, key, may_end, named_port, net_port, net_port_by, number_of, one_port, op_named, port_name, port_range, port_value, port_value_by, protocol, refuse_except, selector}
+use Rattle.np_policies.specs.Prelude.{AdminPort, BadField, BadPort, BadSelector, Cidr, FaultKind, IpBlock, Name, NetPort, Number, Op, PortValue, Proto, Requirement, Selector, admin_port, admin_port_member, all_items, cidr, container_port_name, end_port, expression, fitting, has_other, ip_block, items_at, key, may_end, named_port, net_port, net_port_by, one_port, op_named, port_number_of, port_range, port_value, port_value_by, protocol, refuse_except, selector}
 use Rattle.np_addr.specs.declared.cidr.Cidr.TheVariants.{Four, Six}
 use Rattle.np_json.specs.Prelude.{Read, as_pairs, as_whole, has_member, has_one_of, labels, listed, must_be_object, of_type, optional, port, port_number, refuse, refuse_if, refuse_member_if, required, text, under, word, ◌>>◌}
 use Rattle.np_model.specs.Prelude.{is_label, is_well_admin_port, is_well_block, is_well_cidr, is_well_net_port, is_whole_word, is_word, is_worded, option_all}
@@ -184,8 +184,8 @@ ip_block-well value read is =
 
 -- ---- ports
 
-port_name-well : (value : Data) (s : List ℕ) → port_name value ≡ Ok s → is_whole_word s ≡ true
-unfolding port_name
+port_name-well : (value : Data) (s : List ℕ) → container_port_name value ≡ Ok s → is_whole_word s ≡ true
+unfolding container_port_name
 port_name-well value s is =
     let read = bind-output (text value) (λ s. refuse_if (length s == 0) BadPort >> (refuse_if (not (is_word s)) BadField >> Ok s)) s is in
     let filled = unbroken-output (length read.first == 0) BadPort _ s read.after in
@@ -206,7 +206,7 @@ port_value-well value read is = by (as_whole value) is
   where
     by : (number : Option ℤ) → port_value_by number value ≡ Ok read → is_well_value read ≡ true
     by None is =
-        let name = bind-output (port_name value) (λ name. Ok (Name name)) read is in
+        let name = bind-output (container_port_name value) (λ name. Ok (Name name)) read is in
         let made : Name name.first ≡ read = let after = name.after in cc in
         rw (← made) (port_name-well value name.first name.here)
     by (Some n) is =
@@ -226,7 +226,7 @@ end_port-well first value last is =
 at_most_itself : (n : ℕ) → nat_le n n ≡ true
 at_most_itself n = grind (arith, nat_tests)
 
-spans-well : (proto : Proto) (value : Option PortValue) (last : Option ℕ) → option_all is_well_value value ≡ true → option_all (may_end (number_of value)) last ≡ true →
+spans-well : (proto : Proto) (value : Option PortValue) (last : Option ℕ) → option_all is_well_value value ≡ true → option_all (may_end (port_number_of value)) last ≡ true →
     is_well_net_port (net_port_by proto value last) ≡ true
 spans-well proto None last well ends = refl
 spans-well proto (Some (Number first)) None well ends = at_most_itself first
@@ -239,10 +239,10 @@ net_port-well value read is =
     let past = then-output (must_be_object value) _ read is in
     let proto = bind-output (protocol value) _ read past in
     let first = bind-output (optional (codes "port") port_value value) _ read proto.after in
-    let last = bind-output (optional (codes "endPort") (end_port (number_of first.first)) value) (λ last. Ok (net_port_by proto.first first.first last)) read first.after in
+    let last = bind-output (optional (codes "endPort") (end_port (port_number_of first.first)) value) (λ last. Ok (net_port_by proto.first first.first last)) read first.after in
     let made : net_port_by proto.first first.first last.first ≡ read = let after = last.after in cc in
     let well = optional-well port_value is_well_value port_value-well (codes "port") value first.first first.here in
-    let ends = optional-well (end_port (number_of first.first)) (may_end (number_of first.first)) (end_port-well (number_of first.first)) (codes "endPort") value last.first last.here in
+    let ends = optional-well (end_port (port_number_of first.first)) (may_end (port_number_of first.first)) (end_port-well (port_number_of first.first)) (codes "endPort") value last.first last.here in
     rw (← made) (spans-well proto.first first.first last.first well ends)
 
 one_port-well : (value : Data) (read : AdminPort) → one_port value ≡ Ok read → is_well_admin_port read ≡ true
@@ -272,7 +272,7 @@ port_range-well value read is =
 named_port-well : (value : Data) (read : AdminPort) → named_port value ≡ Ok read → is_well_admin_port read ≡ true
 unfolding named_port
 named_port-well value read is =
-    let name = bind-output (port_name value) (λ name. Ok (admin.Named name)) read is in
+    let name = bind-output (container_port_name value) (λ name. Ok (admin.Named name)) read is in
     let made : admin.Named name.first ≡ read = let after = name.after in cc in
     rw (← made) (port_name-well value name.first name.here)
 

@@ -61,10 +61,10 @@ net_spec value = must_be_object value >> do
 abbrev pub empty_spec : NetSpec
 empty_spec = record { subject = everything; types = []; ingress = []; egress = [] }
 
-abbrev pub is_same : Direction → Direction → Bool
-is_same Ingress Ingress = true
-is_same Egress Egress = true
-is_same one other = false
+abbrev pub is_same_direction : Direction → Direction → Bool
+is_same_direction Ingress Ingress = true
+is_same_direction Egress Egress = true
+is_same_direction one other = false
 
 -- whether a policy that lists no types has the direction: Egress only where it has a rule
 abbrev pub has_by_default : Direction → List NetRule → Bool
@@ -74,7 +74,7 @@ has_by_default Egress egress = not (length egress == 0)
 -- whether the direction is among the types of the policy
 abbrev pub has_direction : NetSpec → Direction → Bool
 has_direction spec direction = if length spec.types == 0 then has_by_default direction spec.egress
-    else list_any (λ listed. is_same listed direction) spec.types
+    else list_any (λ listed. is_same_direction listed direction) spec.types
 
 -- the rules of a direction, if it is among the types
 abbrev pub rules_if : Bool → List NetRule → Option (List NetRule)

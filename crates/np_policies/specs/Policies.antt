@@ -10,8 +10,8 @@ use Rattle.np_policies.specs.NetworkPolicies.{net_policy}
 use Rattle.np_policies.specs.declared.policy.Policy.TheVariants as policy
 
 -- whether an object is of a version and kind
-abbrev pub is_of : List ℕ → List ℕ → TypeMeta → Bool
-is_of version kind meta = bytes_eq meta.api_version version && bytes_eq meta.kind kind
+abbrev pub is_of_type : List ℕ → List ℕ → TypeMeta → Bool
+is_of_type version kind meta = bytes_eq meta.api_version version && bytes_eq meta.kind kind
 
 -- whether a kind is a network policy of any sort: its name ends in `NetworkPolicy`, whatever project it is of
 abbrev pub is_network_policy : List ℕ → Bool
@@ -21,9 +21,9 @@ is_network_policy kind = ends_with nat_eq kind (codes "NetworkPolicy")
 -- version is foreign.
 abbrev pub policy_kind : TypeMeta → PolicyKind
 policy_kind meta =
-    if is_of (codes "networking.k8s.io/v1") (codes "NetworkPolicy") meta then Net
-    else if is_of (codes "policy.networking.k8s.io/v1alpha1") (codes "AdminNetworkPolicy") meta then Admin
-    else if is_of (codes "policy.networking.k8s.io/v1alpha1") (codes "BaselineAdminNetworkPolicy") meta then Base
+    if is_of_type (codes "networking.k8s.io/v1") (codes "NetworkPolicy") meta then Net
+    else if is_of_type (codes "policy.networking.k8s.io/v1alpha1") (codes "AdminNetworkPolicy") meta then Admin
+    else if is_of_type (codes "policy.networking.k8s.io/v1alpha1") (codes "BaselineAdminNetworkPolicy") meta then Base
     else if is_network_policy meta.kind then Foreign
     else NoPolicy
 

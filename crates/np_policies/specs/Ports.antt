@@ -14,8 +14,8 @@ unfoldable pub protocol : Data → Read Proto
 protocol value = optional_or Tcp (codes "protocol") protocol_name value
 
 -- the name of a container port: the empty text is BadPort, another that is no word BadField
-unfoldable pub port_name : Data → Read (List ℕ)
-port_name value = do
+unfoldable pub container_port_name : Data → Read (List ℕ)
+container_port_name value = do
   s ← text value
   refuse_if (length s == 0) BadPort
   refuse_if (not (is_word s)) BadField
@@ -23,16 +23,16 @@ port_name value = do
 
 abbrev pub port_value_by : Option ℤ → Data → Read PortValue
 port_value_by (Some n) value = do Ok (Number (← port_number n))
-port_value_by None value = do Ok (Name (← port_name value))
+port_value_by None value = do Ok (Name (← container_port_name value))
 
 -- `port` of a NetworkPolicy: a port's number or name
 unfoldable pub port_value : Data → Read PortValue
 port_value value = port_value_by (as_whole value) value
 
 -- the port's number, if it has one
-abbrev pub number_of : Option PortValue → Option ℕ
-number_of (Some (Number number)) = Some number
-number_of other = None
+abbrev pub port_number_of : Option PortValue → Option ℕ
+port_number_of (Some (Number number)) = Some number
+port_number_of other = None
 
 -- whether a range may end there
 abbrev pub may_end : Option ℕ → ℕ → Bool
@@ -53,7 +53,7 @@ unfoldable pub net_port : Data → Read NetPort
 net_port value = must_be_object value >> do
   proto ← protocol value
   port ← optional (codes "port") port_value value
-  Ok (net_port_by proto port (← optional (codes "endPort") (end_port (number_of port)) value))
+  Ok (net_port_by proto port (← optional (codes "endPort") (end_port (port_number_of port)) value))
 
 -- `portNumber` of an admin policy
 unfoldable pub one_port : Data → Read AdminPort
@@ -73,7 +73,7 @@ port_range value = must_be_object value >> do
 
 -- `namedPort` of an admin policy
 unfoldable pub named_port : Data → Read AdminPort
-named_port value = do Ok (admin.Named (← port_name value))
+named_port value = do Ok (admin.Named (← container_port_name value))
 
 -- the one member of the three that is there
 abbrev pub admin_port_member : Data → Read AdminPort

@@ -153,13 +153,13 @@ fn has_by_default(direction: Direction, egress: &[NetRule]) -> bool
 }
 
 fn is_listed(types: &[Direction], direction: Direction) -> bool
-    ensures { result ≡ list_any (λ listed. shapes.is_same listed direction) types.now }
+    ensures { result ≡ list_any (λ listed. shapes.is_same_direction listed direction) types.now }
 {
     types.iter().any(|listed| is_same(*listed, direction))
 }
 
 fn is_same(a: Direction, b: Direction) -> bool
-    ensures { result ≡ shapes.is_same a b }
+    ensures { result ≡ shapes.is_same_direction a b }
 {
     match (a, b) {
         (Direction::Ingress, Direction::Ingress) | (Direction::Egress, Direction::Egress) => true,

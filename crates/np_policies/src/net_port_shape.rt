@@ -87,7 +87,7 @@ fn may_end(first: Option<PortNum>, last: PortNum) -> bool
 
 // The port's number, if it has one.
 fn number_of(port: &Option<PortValue>) -> Option<PortNum>
-    ensures { result ≡ shapes.number_of port.now }
+    ensures { result ≡ shapes.port_number_of port.now }
 {
     match port {
         Some(PortValue::Number(number)) => Some(*number),

@@ -97,7 +97,7 @@ fn policy_kind(meta: &TypeMeta) -> PolicyKind
 
 // Whether an object is of a version and kind.
 fn is_of(meta: &TypeMeta, version: &str, kind: &str) -> bool
-    ensures { result ≡ shapes.is_of version.now kind.now meta.now }
+    ensures { result ≡ shapes.is_of_type version.now kind.now meta.now }
 {
     meta.api_version.as_str() == version && meta.kind.as_str() == kind
 }

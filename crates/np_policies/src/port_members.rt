@@ -27,9 +27,9 @@ pub(crate) struct PolicyPortName;
 impl Shape for PolicyPortName {
     type Output = Text;
 
-    ghost reads = { λ _. shapes.port_name };
+    ghost reads = { λ _. shapes.container_port_name };
 
-    #[tactic(auto, unfolding(crate::specs::Ports::port_name))]
+    #[tactic(auto, unfolding(crate::specs::Ports::container_port_name))]
     fn read(&self, alloc: Global, value: &Value) -> Result<Text, ShapeFault> {
         let text = of_type(alloc, value.as_str())?;
         refuse_if(alloc, text.is_empty(), FaultKind::BadPort)?;

@@ -12,7 +12,7 @@ use Rattle.np_rules.proofs.KeptLemmas.{quieter}
 use Rattle.np_rules.proofs.NetTierLemmas as net
 use Rattle.np_rules.proofs.PlacesLemmas.{list_any-numbered}
 use Rattle.np_rules.proofs.SideLemmas.{places-matches}
-use Rattle.np_rules.specs.Prelude.{Contact, End, IsAmong, PlacedAdminRule, PodEnd, admin_candidates, admin_decider, admin_entry_matches, admin_peer_matches, admin_places, admin_places_of, admin_precedes, admin_rule_matches, admin_rules_of, base_decider, is_isolated, net_entry_matches, net_peer_matches, net_places, net_rule_matches, net_rules_of, net_selects, none_or_any, permits, placed_net_matches, subject_selects}
+use Rattle.np_rules.specs.Prelude.{Contact, IsAmong, ModelEnd, PlacedAdminRule, PodEnd, admin_candidates, admin_decider, admin_entry_matches, admin_peer_matches, admin_places, admin_places_of, admin_precedes, admin_rule_matches, admin_rules_of, base_decider, is_isolated, net_entry_matches, net_peer_matches, net_places, net_rule_matches, net_rules_of, net_selects, none_or_any, permits, placed_net_matches, subject_selects}
 use Rattle.np_rules.specs.model.Sides.{action_says, admin_says, base_says, is_allow, side_allows}
 
 and_quieter : (a b c : Bool) → (b ≡ false → c ≡ false) → (a && b) ≡ false → (a && c) ≡ false
@@ -118,7 +118,7 @@ admin_says_quiet (Some found) below silent none = action_quiet found.rule.action
 -- ---- all tiers
 
 -- a pod that a far end is out of reach of is isolated
-pub isolated-out_of_reach : (lists : EstateLists) (direction : Direction) (near : PodEnd) (far : End) → may_reach lists direction near far ≡ false →
+pub isolated-out_of_reach : (lists : EstateLists) (direction : Direction) (near : PodEnd) (far : ModelEnd) → may_reach lists direction near far ≡ false →
     is_isolated lists.net_policies direction near ≡ true
 unfolding may_reach
 isolated-out_of_reach lists direction near far none = not-false _ (or_parts _ _ none).0

@@ -4,7 +4,7 @@ ghost use Rattle.std.specs.List.{list_any};
 ghost use Rattle.np_model.specs.declared.direction.Direction.{Direction};
 ghost use Rattle.np_reach.specs.Reach as spec;
 ghost use Rattle.np_reach.specs.Namespaces.{AreOfOneNamespace};
-ghost use Rattle.np_rules.specs.Prelude.{End, PodEnd, pod, pod_end};
+ghost use Rattle.np_rules.specs.Prelude.{ModelEnd, PodEnd, pod, pod_end};
 
 use crate::concerns::{admin_rule_concerns, net_rule_concerns};
 use np_addr::Family;
@@ -27,7 +27,7 @@ pub(crate) trait Speaker {
         → may_pick policy one ≡ false → picks policy near ≡ false };
 
     /// Whether some rule of a direction allows, and speaks of a far end.
-    ghost speaks: { Direction → End → Self → Bool };
+    ghost speaks: { Direction → ModelEnd → Self → Bool };
 
     /// Whether some rule of a direction allows, and may speak of pods of a pod's namespace.
     ghost concerns: { Direction → PodEnd → Self → Bool };

@@ -3,7 +3,7 @@ use Rattle.std.proofs.Common.{◌≡◌, ℕ, ◌+◌, List, [], ◌∷◌, ◌+
 use Rattle.std.specs.Prelude.{fold, option_to_list}
 use Rattle.std.specs.List.{cons_option, filter_map}
 use Rattle.std.specs.Option.{option_and_then}
-use Rattle.np_reading.specs.Prelude.{AdminPolicy, BasePolicy, EstateLists, Finished, Host, IngressItem, Item, NetPolicy, PlacedIngress, Pod, PodContext, Seen, ServiceItem, Skipped, admin_policy, base_policy, context_at, contexts_from, contexts_of, count_left_out, end_of, end_of_object, estate_of_items, first_of, in_order, ingress, ingresses_from, net_policy, notes_of, nothing, or_first, placed, pods_from, service, with_admin, with_item, with_items, with_net, with_object, with_pairs, with_pod, with_policy}
+use Rattle.np_reading.specs.Prelude.{AdminPolicy, BasePolicy, EstateLists, Finished, Host, IngressItem, Item, NetPolicy, PlacedIngress, Pod, PodContext, Seen, ServiceItem, Skipped, admin_policy_in, base_policy_in, context_at, contexts_from, contexts_of, count_left_out, estate_of_items, first_item, in_order, ingress_in, ingresses_from, net_policy_in, notes_of, nothing, or_first, placed, pod_of_item, pod_of_object, pods_from, service_in, with_admin, with_item, with_items, with_net, with_object, with_pairs, with_pod, with_policy}
 use Rattle.np_items.specs.declared.item.Item.TheVariants as item
 use Rattle.np_objects.specs.declared.object.Object.TheVariants as object
 use Rattle.np_policies.specs.declared.policy.Policy.TheVariants as policy
@@ -22,7 +22,7 @@ joined so_far pods nets admins bases services ingresses = record {
   pods = so_far.pods ++ pods;
   nets = fold with_net so_far.nets nets;
   admins = fold with_admin so_far.admins admins;
-  baseline = or_first so_far.baseline (first_of bases);
+  baseline = or_first so_far.baseline (first_item bases);
   services = so_far.services ++ services;
   ingresses = so_far.ingresses ++ ingresses;
 }
@@ -51,7 +51,7 @@ module _ (so_far : Seen) (number : ℕ) (pods : List Pod) (nets : List NetPolicy
   joined-pod (Some pod) = ap (λ (all : List Pod). record (joined so_far [] nets admins bases services ingresses) { pods = all }) (append_assoc so_far.pods (pod ∷ []) pods)
 
   joined-base : (base : BasePolicy) → joined (with_policy so_far (policy.Base base)) pods nets admins bases services ingresses ≡ joined so_far pods nets admins (base ∷ bases) services ingresses
-  joined-base base = ap (λ (first : Option BasePolicy). record (joined so_far pods nets admins [] services ingresses) { baseline = first }) (or_first-assoc so_far.baseline base (first_of bases))
+  joined-base base = ap (λ (first : Option BasePolicy). record (joined so_far pods nets admins [] services ingresses) { baseline = first }) (or_first-assoc so_far.baseline base (first_item bases))
 
   joined-service : (one : ServiceItem) →
       joined (with_object so_far number (object.Service one) None) pods nets admins bases services ingresses ≡ joined so_far pods nets admins bases (one ∷ services) ingresses
@@ -63,8 +63,8 @@ module _ (so_far : Seen) (number : ℕ) (pods : List Pod) (nets : List NetPolicy
       (append_assoc so_far.ingresses (placed number (Some one)) ingresses)
 
   joined-item : (one : Item) (around : Option PodContext) → joined (with_item so_far number one around) pods nets admins bases services ingresses
-      ≡ joined so_far (option_to_list (option_and_then (end_of one) around) ++ pods) (cons_option (net_policy one) nets) (cons_option (admin_policy one) admins)
-      (cons_option (base_policy one) bases) (cons_option (service one) services) (placed number (ingress one) ++ ingresses)
+      ≡ joined so_far (option_to_list (option_and_then (pod_of_item one) around) ++ pods) (cons_option (net_policy_in one) nets) (cons_option (admin_policy_in one) admins)
+      (cons_option (base_policy_in one) bases) (cons_option (service_in one) services) (placed number (ingress_in one) ++ ingresses)
   joined-item (item.Policy (policy.Net net)) None = refl
   joined-item (item.Policy (policy.Net net)) (Some around) = refl
   joined-item (item.Policy (policy.Admin admin)) None = refl
@@ -80,17 +80,17 @@ module _ (so_far : Seen) (number : ℕ) (pods : List Pod) (nets : List NetPolicy
   joined-item (item.Object object.Other) None = refl
   joined-item (item.Object object.Other) (Some around) = refl
   joined-item (item.Object (object.Pod pod)) None = refl
-  joined-item (item.Object (object.Pod pod)) (Some around) = joined-pod (end_of_object (object.Pod pod) around)
+  joined-item (item.Object (object.Pod pod)) (Some around) = joined-pod (pod_of_object (object.Pod pod) around)
   joined-item (item.Object (object.Controller controller)) None = refl
-  joined-item (item.Object (object.Controller controller)) (Some around) = joined-pod (end_of_object (object.Controller controller) around)
+  joined-item (item.Object (object.Controller controller)) (Some around) = joined-pod (pod_of_object (object.Controller controller) around)
 
 -- one after another, and all at once
 gathers : (all : List Item) (place : ℕ) (so_far : Seen) (number : ℕ) (items : List Item) → with_items so_far number items (contexts_from all place items)
-    ≡ joined so_far (pods_from all place items) (filter_map net_policy items) (filter_map admin_policy items) (filter_map base_policy items) (filter_map service items) (ingresses_from number items)
+    ≡ joined so_far (pods_from all place items) (filter_map net_policy_in items) (filter_map admin_policy_in items) (filter_map base_policy_in items) (filter_map service_in items) (ingresses_from number items)
 gathers all place so_far number [] = sym (joined-nothing so_far)
 gathers all place so_far number (one ∷ items) =
     gathers all (place + 1) (with_item so_far number one (context_at all place one)) (number + 1) items
-    ∙ joined-item so_far number (pods_from all (place + 1) items) (filter_map net_policy items) (filter_map admin_policy items) (filter_map base_policy items) (filter_map service items)
+    ∙ joined-item so_far number (pods_from all (place + 1) items) (filter_map net_policy_in items) (filter_map admin_policy_in items) (filter_map base_policy_in items) (filter_map service_in items)
     (ingresses_from (number + 1) items) one (context_at all place one)
 
 -- ---- a loop over items

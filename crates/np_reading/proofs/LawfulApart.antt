@@ -9,16 +9,16 @@ use Rattle.np_reading.proofs.LawfulLists.{AllPairs-from_later, later-filter, lat
 use Rattle.np_reading.proofs.LawfulNames.{AreNamedApart, items_apart}
 use Rattle.np_reading.proofs.LawfulPods.{later-pods_from}
 use Rattle.np_reading.proofs.LawfulPolicies.{later-admin_policies}
-use Rattle.np_reading.specs.Prelude.{AdminPolicy, Item, Pod, ServiceItem, admin_policies_of, admin_policy, pods_of, service, services_of}
+use Rattle.np_reading.specs.Prelude.{AdminPolicy, Item, Pod, ServiceItem, admin_policies_of, admin_policy_in, pods_of, service_in, services_of}
 use Rattle.np_model.specs.Prelude.{AreNamesApart, ArePodsApart, AreServicesApart, are_apart}
 use Rattle.np_items.specs.declared.item.Item.TheVariants as item
 use Rattle.np_objects.specs.declared.object.Object.TheVariants as object
-use Rattle.np_owners.specs.Prelude.{first_repeat, name_of, named}
+use Rattle.np_owners.specs.Prelude.{first_repeat, name_of_item, object_named}
 use Rattle.np_policies.specs.declared.policy.Policy.TheVariants as policy
 
 -- ---- pods
 
-pub are_apart-from_items : (a b : Item) (kind namespace name namespace' name' : List ℕ) → bytes_eq kind kind ≡ true → name_of a ≡ named kind namespace name → name_of b ≡ named kind namespace' name' →
+pub are_apart-from_items : (a b : Item) (kind namespace name namespace' name' : List ℕ) → bytes_eq kind kind ≡ true → name_of_item a ≡ object_named kind namespace name → name_of_item b ≡ object_named kind namespace' name' →
     AreNamedApart a b → are_apart namespace name namespace' name' ≡ true
 are_apart-from_items a b kind namespace name namespace' name' same first second apart =
     not_from_false _ (rw same at (apart (record { kind = kind; namespace = namespace; name = name }) (record { kind = kind; namespace = namespace'; name = name' }) first second))
@@ -36,8 +36,8 @@ pods-apart items nothing =
 
 -- ---- services
 
-name_of_service : (one : Item) (found : ServiceItem) → service one ≡ Some found → name_of one ≡ named (codes "Service") found.namespace found.name
-name_of_service (item.Object (object.Service listed)) found is = ap (λ (s : ServiceItem). named (codes "Service") s.namespace s.name) (same_Some listed found is)
+name_of_service : (one : Item) (found : ServiceItem) → service_in one ≡ Some found → name_of_item one ≡ object_named (codes "Service") found.namespace found.name
+name_of_service (item.Object (object.Service listed)) found is = ap (λ (s : ServiceItem). object_named (codes "Service") s.namespace s.name) (same_Some listed found is)
 name_of_service (item.Object (object.Pod other)) found is = absurd (none-some found is)
 name_of_service (item.Object (object.Controller other)) found is = absurd (none-some found is)
 name_of_service (item.Object (object.Namespace other)) found is = absurd (none-some found is)
@@ -48,14 +48,14 @@ name_of_service (item.Policy _) found is = absurd (none-some found is)
 pub services-apart : (items : List Item) → first_repeat items ≡ None → AllPairs AreServicesApart (services_of items)
 services-apart items nothing =
     AllPairs-from_later AreServicesApart (services_of items)
-    (later-filter_map service AreNamedApart AreServicesApart
+    (later-filter_map service_in AreNamedApart AreServicesApart
     (λ one other a b a_is b_is apart. are_apart-from_items one other (codes "Service") a.namespace a.name b.namespace b.name refl (name_of_service one a a_is) (name_of_service other b b_is) apart)
     items (items_apart items nothing))
 
 -- ---- admin policies
 
-pub name_of_admin : (one : Item) (found : AdminPolicy) → admin_policy one ≡ Some found → name_of one ≡ named (codes "AdminNetworkPolicy") [] found.name
-name_of_admin (item.Policy (policy.Admin listed)) found is = ap (λ (p : AdminPolicy). named (codes "AdminNetworkPolicy") [] p.name) (same_Some listed found is)
+pub name_of_admin : (one : Item) (found : AdminPolicy) → admin_policy_in one ≡ Some found → name_of_item one ≡ object_named (codes "AdminNetworkPolicy") [] found.name
+name_of_admin (item.Policy (policy.Admin listed)) found is = ap (λ (p : AdminPolicy). object_named (codes "AdminNetworkPolicy") [] p.name) (same_Some listed found is)
 name_of_admin (item.Policy (policy.Net other)) found is = absurd (none-some found is)
 name_of_admin (item.Policy (policy.Base other)) found is = absurd (none-some found is)
 name_of_admin (item.Object _) found is = absurd (none-some found is)
@@ -67,6 +67,6 @@ pub admin_policies-apart : (items : List Item) → first_repeat items ≡ None �
 admin_policies-apart items nothing =
     AllPairs-from_later AreNamesApart (admin_policies_of items)
     (later-admin_policies AreNamesApart AreNamesApart-flips items
-    (later-filter_map admin_policy AreNamedApart AreNamesApart
+    (later-filter_map admin_policy_in AreNamedApart AreNamesApart
     (λ one other a b a_is b_is apart. are_apart-from_items one other (codes "AdminNetworkPolicy") [] a.name [] b.name refl (name_of_admin one a a_is) (name_of_admin other b b_is) apart)
     items (items_apart items nothing)))

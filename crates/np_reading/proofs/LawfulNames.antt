@@ -7,11 +7,11 @@ use Rattle.np_base.proofs.Each.{All-weaker, All-parts}
 use Rattle.np_reading.proofs.LawfulLists.{AllLater}
 use Rattle.np_reading.specs.Prelude.{Item, ObjectName}
 use Rattle.np_owners.proofs.PlaceLemmas.{same_name-sym}
-use Rattle.np_owners.specs.Prelude.{first_repeat, is_named, name_of, place_of, repeat_after, repeated, same_name}
+use Rattle.np_owners.specs.Prelude.{first_repeat, is_item_named, name_of_item, place_of, repeat_after, repeated, same_name}
 
 -- two items have not one name
 abbrev pub AreNamedApart : Item → Item → Type 0
-AreNamedApart a b = (x y : ObjectName) → name_of a ≡ Some x → name_of b ≡ Some y → same_name x y ≡ false
+AreNamedApart a b = (x y : ObjectName) → name_of_item a ≡ Some x → name_of_item b ≡ Some y → same_name x y ≡ false
 
 -- where a search ends without a place, no element passes
 none_passes : {X : Type 0} (test : X → Bool) (from : ℕ) (xs : List X) → position_from test from xs ≡ None → AllByRecursion (λ x. test x ≡ false) xs
@@ -22,12 +22,12 @@ none_passes test from (x ∷ xs) nothing = by (test x) refl (none_passes test (f
     by true is rest = let found = rw is at nothing in cc
     by false is rest = (is, rest (rw is at nothing))
 
-none_named : (items : List Item) (name : ObjectName) → place_of items name ≡ None → AllByRecursion (λ one. is_named name one ≡ false) items
-none_named items name nothing = none_passes (is_named name) 0 items (sym (position_from-zero (is_named name) items) ∙ nothing)
+none_named : (items : List Item) (name : ObjectName) → place_of items name ≡ None → AllByRecursion (λ one. is_item_named name one ≡ false) items
+none_named items name nothing = none_passes (is_item_named name) 0 items (sym (position_from-zero (is_item_named name) items) ∙ nothing)
 
 -- an item that repeats no name has none of the names before it
 apart_from_earlier : (earlier : List Item) (one : Item) → repeated earlier one ≡ None → AllByRecursion (λ before. AreNamedApart before one) earlier
-apart_from_earlier earlier one nothing = by (name_of one) refl nothing
+apart_from_earlier earlier one nothing = by (name_of_item one) refl nothing
   where
     numbers : ℕ → Option (ℕ × ℕ)
     numbers first = Some (first + 1, length earlier + 1)
@@ -36,16 +36,16 @@ apart_from_earlier earlier one nothing = by (name_of one) refl nothing
     free None is = refl
     free (Some place) is = cc
 
-    unnamed : name_of one ≡ None → (items : List Item) → AllByRecursion (λ before. AreNamedApart before one) items
+    unnamed : name_of_item one ≡ None → (items : List Item) → AllByRecursion (λ before. AreNamedApart before one) items
     unnamed is [] = tt
     unnamed is (before ∷ items) = ((λ x y x_is y_is. cc), unnamed is items)
 
-    by : (o : Option ObjectName) → name_of one ≡ o → option_and_then (λ name. option_and_then numbers (place_of earlier name)) o ≡ None → AllByRecursion (λ before. AreNamedApart before one) earlier
+    by : (o : Option ObjectName) → name_of_item one ≡ o → option_and_then (λ name. option_and_then numbers (place_of earlier name)) o ≡ None → AllByRecursion (λ before. AreNamedApart before one) earlier
     by None is nothing = unnamed is earlier
-    by (Some name) is nothing = All-weaker (λ before. is_named name before ≡ false) (λ before. AreNamedApart before one)
+    by (Some name) is nothing = All-weaker (λ before. is_item_named name before ≡ false) (λ before. AreNamedApart before one)
         (λ before other x y x_is y_is. apart before other x y x_is y_is) earlier (none_named earlier name (free (place_of earlier name) nothing))
       where
-        apart : (before : Item) → is_named name before ≡ false → AreNamedApart before one
+        apart : (before : Item) → is_item_named name before ≡ false → AreNamedApart before one
         apart before other x y x_is y_is =
             let same : name ≡ y = cc in
             rw (← same) (same_name-sym x name ∙ rw x_is at other)

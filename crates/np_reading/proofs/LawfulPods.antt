@@ -6,13 +6,13 @@ use Rattle.std.specs.Option.{option_map}
 use Rattle.std.proofs.lemmas.Bool.{and_from, and_parts}
 use Rattle.std.proofs.lemmas.Option.{none-some, same_Some, option_and_then_some}
 use Rattle.np_reading.proofs.LawfulLists.{AllLater}
-use Rattle.np_reading.specs.Prelude.{ControllerItem, Item, ObjectName, Owner, Pod, PodContext, PodItem, Template, context, context_at, context_of, end_of, gives_end, listed_pod, made_pod, namespace_labels, pod_at_item, pods_from}
+use Rattle.np_reading.specs.Prelude.{ControllerItem, Item, ObjectName, Owner, Pod, PodContext, PodItem, Template, context, context_at, context_of, gives_end, listed_pod, made_pod, namespace_labels, pod_at_item, pod_of_item, pods_from}
 use Rattle.np_items.specs.Prelude.{IsWellItem}
 use Rattle.np_items.specs.declared.item.Item.TheVariants as item
 use Rattle.np_model.specs.Prelude.{is_name, is_well_labels, is_well_ports, option_all}
 use Rattle.np_objects.specs.Prelude.{is_well_owner, is_well_template}
 use Rattle.np_objects.specs.declared.object.Object.TheVariants as object
-use Rattle.np_owners.specs.Prelude.{makes_pod, name_of, named, top_owner}
+use Rattle.np_owners.specs.Prelude.{makes_pod, name_of_item, object_named, top_owner}
 
 -- whether a pod's own names and labels are names and labels
 abbrev pub is_well_itself : Pod → Bool
@@ -23,11 +23,11 @@ is_well_itself pod = is_name pod.namespace && is_name pod.name && is_well_labels
 pub record IsEndOf (one : Item) (around : PodContext) (pod : Pod) : Type 0 where
   pub labels : pod.namespace_labels ≡ around.namespace_labels
   pub owner : pod.owner ≡ around.owner
-  pub namespace : (name : ObjectName) → name_of one ≡ Some name → pod.namespace ≡ name.namespace
-  pub listed : pod.listed ≡ true → name_of one ≡ named (codes "Pod") pod.namespace pod.name
+  pub namespace : (name : ObjectName) → name_of_item one ≡ Some name → pod.namespace ≡ name.namespace
+  pub listed : pod.listed ≡ true → name_of_item one ≡ object_named (codes "Pod") pod.namespace pod.name
   pub well : IsWellItem one → is_well_itself pod ≡ true
 
-namespace_of : (kind namespace name : List ℕ) (other : ObjectName) → named kind namespace name ≡ Some other → namespace ≡ other.namespace
+namespace_of : (kind namespace name : List ℕ) (other : ObjectName) → object_named kind namespace name ≡ Some other → namespace ≡ other.namespace
 namespace_of kind namespace name other is =
     ap (λ (n : ObjectName). n.namespace) (same_Some (record { kind = kind; namespace = namespace; name = name }) other is)
 
@@ -48,7 +48,7 @@ IsEndOf-made : (controller : ControllerItem) (around : PodContext) (template : T
 IsEndOf-made controller around template is = record {
   labels = refl;
   owner = refl;
-  namespace = λ name named. namespace_of _ controller.namespace controller.name name named;
+  namespace = λ name object_named. namespace_of _ controller.namespace controller.name name object_named;
   listed = λ never. cc;
   well = λ all.
       let made = and_parts _ (option_all is_well_template controller.template) all in
@@ -57,7 +57,7 @@ IsEndOf-made controller around template is = record {
       and_from _ (is_well_ports template.ports) (and_from _ (is_well_labels template.labels) parts.0 inside.0) inside.1;
 }
 
-IsEndOf-end_of : (one : Item) (around : PodContext) (pod : Pod) → end_of one around ≡ Some pod → IsEndOf one around pod
+IsEndOf-end_of : (one : Item) (around : PodContext) (pod : Pod) → pod_of_item one around ≡ Some pod → IsEndOf one around pod
 IsEndOf-end_of (item.Object (object.Pod listed)) around pod is =
     subst (IsEndOf (item.Object (object.Pod listed)) around) (same_Some (listed_pod listed around) pod is) (IsEndOf-listed listed around)
 IsEndOf-end_of (item.Object (object.Controller controller)) around pod is = by controller.template refl is
@@ -75,26 +75,26 @@ IsEndOf-end_of (item.Policy policy) around pod is = absurd (none-some pod is)
 -- ---- what the rest of the list says of it
 
 pub record IsContextOf (items : List Item) (place : ℕ) (one : Item) (around : PodContext) : Type 0 where
-  pub labels : (name : ObjectName) × (name_of one ≡ Some name) × (around.namespace_labels ≡ namespace_labels items name.namespace)
+  pub labels : (name : ObjectName) × (name_of_item one ≡ Some name) × (around.namespace_labels ≡ namespace_labels items name.namespace)
   pub owner : top_owner items place ≡ Some around.owner
 
 IsContextOf-context_at : (items : List Item) (place : ℕ) (one : Item) (around : PodContext) → context_at items place one ≡ Some around → IsContextOf items place one around
 IsContextOf-context_at items place one around is = by (gives_end (makes_pod items place) one) is
   where
-    owned : (name : ObjectName) → name_of one ≡ Some name → (o : Option Owner) → top_owner items place ≡ o → option_map (context (namespace_labels items name.namespace)) o ≡ Some around →
+    owned : (name : ObjectName) → name_of_item one ≡ Some name → (o : Option Owner) → top_owner items place ≡ o → option_map (context (namespace_labels items name.namespace)) o ≡ Some around →
         IsContextOf items place one around
-    owned name named None top found = absurd (none-some around found)
-    owned name named (Some owner) top found =
+    owned name object_named None top found = absurd (none-some around found)
+    owned name object_named (Some owner) top found =
         let same = same_Some (context (namespace_labels items name.namespace) owner) around found in
         record {
-          labels = (name, named, sym (ap (λ (s : PodContext). s.namespace_labels) same));
+          labels = (name, object_named, sym (ap (λ (s : PodContext). s.namespace_labels) same));
           owner = top ∙ ap (λ (s : PodContext). Some s.owner) same;
         }
 
     by : (b : Bool) → cond b (context_of items one (top_owner items place)) None ≡ Some around → IsContextOf items place one around
     by true found =
-        option_and_then_some (λ name. option_map (context (namespace_labels items name.namespace)) (top_owner items place)) (name_of one) around found
-        (λ name named made. owned name named (top_owner items place) refl made)
+        option_and_then_some (λ name. option_map (context (namespace_labels items name.namespace)) (top_owner items place)) (name_of_item one) around found
+        (λ name object_named made. owned name object_named (top_owner items place) refl made)
     by false found = absurd (none-some around found)
 
 -- ---- the pod of an item
@@ -102,12 +102,12 @@ IsContextOf-context_at items place one around is = by (gives_end (makes_pod item
 pub record IsPodOf (items : List Item) (one : Item) (pod : Pod) : Type 0 where
   pub labels : pod.namespace_labels ≡ namespace_labels items pod.namespace
   pub owner : (place : ℕ) × (top_owner items place ≡ Some pod.owner)
-  pub listed : pod.listed ≡ true → name_of one ≡ named (codes "Pod") pod.namespace pod.name
+  pub listed : pod.listed ≡ true → name_of_item one ≡ object_named (codes "Pod") pod.namespace pod.name
   pub well : IsWellItem one → is_well_itself pod ≡ true
 
 pub IsPodOf-pod_at_item : (items : List Item) (place : ℕ) (one : Item) (pod : Pod) → pod_at_item items place one ≡ Some pod → IsPodOf items one pod
 IsPodOf-pod_at_item items place one pod is =
-    option_and_then_some (end_of one) (context_at items place one) pod is
+    option_and_then_some (pod_of_item one) (context_at items place one) pod is
     (λ around at ends. both around (IsContextOf-context_at items place one around at) (IsEndOf-end_of one around pod ends))
   where
     both : (around : PodContext) → IsContextOf items place one around → IsEndOf one around pod → IsPodOf items one pod

@@ -10,8 +10,8 @@ use Rattle.std.proofs.lemmas.Cmp.{nat_cmp_total, nat_list_cmp_total, on_total, t
 use Rattle.std.proofs.lemmas.List.{length-map}
 use Rattle.np_reading.proofs.LawfulEntries.{length-with_values-le, all-with_values, sorted_values, later-with_values, Less-from_sorted_keys}
 use Rattle.np_reading.proofs.LawfulLists.{AllLater, length-filter_map-le}
-use Rattle.np_model.specs.Prelude.{HasAscendingPriorities, StandsBefore, ascends, comes_before}
-use Rattle.np_reading.specs.Prelude.{AdminPolicy, Item, NetPolicy, ObjectName, admin_policies_of, admin_policy, net_name, net_policies_of, net_policy, with_admin, with_net}
+use Rattle.np_model.specs.Prelude.{HasAscendingPriorities, PolicyStandsBefore, ascends, decides_before}
+use Rattle.np_reading.specs.Prelude.{AdminPolicy, Item, NetPolicy, ObjectName, admin_policies_of, admin_policy_in, net_name, net_policies_of, net_policy_in, with_admin, with_net}
 use Rattle.np_owners.proofs.PlaceLemmas.{is_eq-compare_names, equal_names}
 use Rattle.np_owners.specs.Prelude.{compare_names}
 
@@ -28,7 +28,7 @@ nat_cmp-exact a b is = ranked a b Equal (sym is)
 
 -- ---- NetworkPolicies
 
-before-from_Less : (first second : Ordering) → ordering_then first second ≡ Less → comes_before first second ≡ true
+before-from_Less : (first second : Ordering) → ordering_then first second ≡ Less → decides_before first second ≡ true
 before-from_Less Less second is = refl
 before-from_Less Equal Less is = refl
 before-from_Less Equal Equal is = cc
@@ -37,16 +37,16 @@ before-from_Less Greater second is = cc
 
 pub length-net_policies-le : (items : List Item) → length (net_policies_of items) ≤ length items
 length-net_policies-le items =
-    rw (length-map (fold with_net [] (filter_map net_policy items)) (λ entry. entry.1)) (omega
-    (arith, length-with_values-le compare_names-total compare_names-exact net_name [] (filter_map net_policy items), length-filter_map-le net_policy items))
+    rw (length-map (fold with_net [] (filter_map net_policy_in items)) (λ entry. entry.1)) (omega
+    (arith, length-with_values-le compare_names-total compare_names-exact net_name [] (filter_map net_policy_in items), length-filter_map-le net_policy_in items))
 
-pub net_policies-ascend : (items : List Item) → AllPairs StandsBefore (net_policies_of items)
+pub net_policies-ascend : (items : List Item) → AllPairs PolicyStandsBefore (net_policies_of items)
 net_policies-ascend items i j d before below =
     before-from_Less _ _ (Less-from_sorted_keys compare_names net_name (net_policies_of items)
-    (sorted_values compare_names-total compare_names-exact net_name (filter_map net_policy items)) i j d before below)
+    (sorted_values compare_names-total compare_names-exact net_name (filter_map net_policy_in items)) i j d before below)
 
-pub all-net_policies : (P : NetPolicy → Type 0) (items : List Item) → AllByRecursion P (filter_map net_policy items) → AllByRecursion P (net_policies_of items)
-all-net_policies P items all = all-with_values compare_names-total compare_names-exact net_name P [] (filter_map net_policy items) tt all
+pub all-net_policies : (P : NetPolicy → Type 0) (items : List Item) → AllByRecursion P (filter_map net_policy_in items) → AllByRecursion P (net_policies_of items)
+all-net_policies P items all = all-with_values compare_names-total compare_names-exact net_name P [] (filter_map net_policy_in items) tt all
 
 -- ---- admin policies
 
@@ -59,19 +59,19 @@ ascends-from_sorted (n ∷ next ∷ ns) sorted =
 
 pub length-admin_policies-le : (items : List Item) → length (admin_policies_of items) ≤ length items
 length-admin_policies-le items =
-    rw (length-map (fold with_admin [] (filter_map admin_policy items)) (λ entry. entry.1))
-    (omega (arith, length-with_values-le nat_cmp_total nat_cmp-exact (λ admin. admin.priority) [] (filter_map admin_policy items), length-filter_map-le admin_policy items))
+    rw (length-map (fold with_admin [] (filter_map admin_policy_in items)) (λ entry. entry.1))
+    (omega (arith, length-with_values-le nat_cmp_total nat_cmp-exact (λ admin. admin.priority) [] (filter_map admin_policy_in items), length-filter_map-le admin_policy_in items))
 
 pub admin_policies-ascend : (items : List Item) → HasAscendingPriorities (admin_policies_of items)
-admin_policies-ascend items = ascends-from_sorted _ (sorted_values nat_cmp_total nat_cmp-exact (λ admin. admin.priority) (filter_map admin_policy items))
+admin_policies-ascend items = ascends-from_sorted _ (sorted_values nat_cmp_total nat_cmp-exact (λ admin. admin.priority) (filter_map admin_policy_in items))
 
-pub all-admin_policies : (P : AdminPolicy → Type 0) (items : List Item) → AllByRecursion P (filter_map admin_policy items) → AllByRecursion P (admin_policies_of items)
-all-admin_policies P items all = all-with_values nat_cmp_total nat_cmp-exact (λ admin. admin.priority) P [] (filter_map admin_policy items) tt all
+pub all-admin_policies : (P : AdminPolicy → Type 0) (items : List Item) → AllByRecursion P (filter_map admin_policy_in items) → AllByRecursion P (admin_policies_of items)
+all-admin_policies P items all = all-with_values nat_cmp_total nat_cmp-exact (λ admin. admin.priority) P [] (filter_map admin_policy_in items) tt all
 
-pub later-admin_policies : (S : AdminPolicy → AdminPolicy → Type 0) → ((x y : AdminPolicy) → S x y → S y x) → (items : List Item) → AllLater S (filter_map admin_policy items) →
+pub later-admin_policies : (S : AdminPolicy → AdminPolicy → Type 0) → ((x y : AdminPolicy) → S x y → S y x) → (items : List Item) → AllLater S (filter_map admin_policy_in items) →
     AllLater S (admin_policies_of items)
-later-admin_policies S flips items all = later-with_values nat_cmp_total nat_cmp-exact (λ admin. admin.priority) S flips [] (filter_map admin_policy items) tt
-    (none (filter_map admin_policy items)) all
+later-admin_policies S flips items all = later-with_values nat_cmp_total nat_cmp-exact (λ admin. admin.priority) S flips [] (filter_map admin_policy_in items) tt
+    (none (filter_map admin_policy_in items)) all
   where
     none : (xs : List AdminPolicy) → AllByRecursion (λ x. AllByRecursion (S x) []) xs
     none [] = tt

@@ -11,7 +11,7 @@ use Rattle.np_reading.proofs.LawfulNamespaces.{AgreeOnNamespace-from_labels, Has
 use Rattle.np_reading.proofs.LawfulPods.{all-pods_from, length-pods_from-le}
 use Rattle.np_reading.proofs.LawfulPolicies.{admin_policies-ascend, length-admin_policies-le, length-net_policies-le, net_policies-ascend}
 use Rattle.np_reading.proofs.LawfulWell.{estate_of_items-well}
-use Rattle.np_reading.specs.Prelude.{IngressItem, Item, estate_of_items, ingress, ingresses_from, ingresses_of, placed, pods_of, service}
+use Rattle.np_reading.specs.Prelude.{IngressItem, Item, estate_of_items, ingress_in, ingresses_from, ingresses_of, placed, pods_of, service_in}
 use Rattle.np_model.specs.Prelude.{IsEarlierItem, IsFew, IsLawful}
 use Rattle.np_items.specs.Prelude.{IsWellItem}
 use Rattle.np_owners.specs.Prelude.{first_repeat}
@@ -20,7 +20,7 @@ use Rattle.np_owners.specs.Prelude.{first_repeat}
 
 length-ingresses_from-le : (number : ℕ) (items : List Item) → length (ingresses_from number items) ≤ length items
 length-ingresses_from-le number [] = omega arith
-length-ingresses_from-le number (one ∷ items) = by (ingress one) (length-ingresses_from-le (number + 1) items)
+length-ingresses_from-le number (one ∷ items) = by (ingress_in one) (length-ingresses_from-le (number + 1) items)
   where
     by : (o : Option IngressItem) → length (ingresses_from (number + 1) items) ≤ length items → length (placed number o ++ ingresses_from (number + 1) items) ≤ length (one ∷ items)
     by None rest = omega arith
@@ -30,7 +30,7 @@ length-ingresses_from-le number (one ∷ items) = by (ingress one) (length-ingre
 ingresses_from-above : (number : ℕ) (items : List Item) → AllByRecursion (λ found. number ≤ found.item) (ingresses_from number items)
 ingresses_from-above number [] = tt
 ingresses_from-above number (one ∷ items) =
-    by (ingress one) (All-weaker (λ found. number + 1 ≤ found.item) (λ found. number ≤ found.item) (λ found above. omega (arith, above)) (ingresses_from (number + 1) items)
+    by (ingress_in one) (All-weaker (λ found. number + 1 ≤ found.item) (λ found. number ≤ found.item) (λ found above. omega (arith, above)) (ingresses_from (number + 1) items)
     (ingresses_from-above (number + 1) items))
   where
     by : (o : Option IngressItem) → AllByRecursion (λ found. number ≤ found.item) (ingresses_from (number + 1) items) →
@@ -40,7 +40,7 @@ ingresses_from-above number (one ∷ items) =
 
 ingresses_from-ascend : (number : ℕ) (items : List Item) → AllLater IsEarlierItem (ingresses_from number items)
 ingresses_from-ascend number [] = tt
-ingresses_from-ascend number (one ∷ items) = by (ingress one) (ingresses_from-ascend (number + 1) items)
+ingresses_from-ascend number (one ∷ items) = by (ingress_in one) (ingresses_from-ascend (number + 1) items)
   where
     by : (o : Option IngressItem) → AllLater IsEarlierItem (ingresses_from (number + 1) items) → AllLater IsEarlierItem (placed number o ++ ingresses_from (number + 1) items)
     by None rest = rest
@@ -67,7 +67,7 @@ estate_of_items-few items few = record {
   pods = omega (arith, length-pods_from-le items 0 items);
   net_policies = omega (arith, length-net_policies-le items);
   admin_policies = omega (arith, length-admin_policies-le items);
-  services = omega (arith, length-filter_map-le service items);
+  services = omega (arith, length-filter_map-le service_in items);
   ingresses = omega (arith, length-ingresses_from-le 1 items);
 }
 

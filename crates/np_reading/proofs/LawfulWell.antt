@@ -10,7 +10,7 @@ use Rattle.np_reading.proofs.LawfulNamespaces.{namespace_labels-well}
 use Rattle.np_reading.proofs.LawfulOwners.{top_owner-well}
 use Rattle.np_reading.proofs.LawfulPods.{IsPodOf, all-pods_from}
 use Rattle.np_reading.proofs.LawfulPolicies.{all-admin_policies, all-net_policies}
-use Rattle.np_reading.specs.Prelude.{BasePolicy, IngressItem, Item, Pod, admin_policies_of, admin_policy, base_policy, baseline_of, estate_of_items, first_of, ingress, ingresses_from, ingresses_of, net_policies_of, net_policy, placed, pods_of, service, services_of}
+use Rattle.np_reading.specs.Prelude.{BasePolicy, IngressItem, Item, Pod, admin_policies_of, admin_policy_in, base_policy_in, baseline_of, estate_of_items, first_item, ingress_in, ingresses_from, ingresses_of, net_policies_of, net_policy_in, placed, pods_of, service_in, services_of}
 use Rattle.np_model.specs.Prelude.{is_name, is_well, is_well_admin_policy, is_well_base_policy, is_well_ingress, is_well_labels, is_well_net_policy, is_well_pod, is_well_ports, is_well_service, option_all}
 use Rattle.np_items.specs.Prelude.{IsWellItem}
 use Rattle.np_items.specs.declared.item.Item.TheVariants as item
@@ -22,32 +22,32 @@ some_passes p o x is all = rw is at all
 
 -- ---- policies
 
-net_policy-well : (one : Item) → IsWellItem one → option_all is_well_net_policy (net_policy one) ≡ true
+net_policy-well : (one : Item) → IsWellItem one → option_all is_well_net_policy (net_policy_in one) ≡ true
 net_policy-well (item.Policy (policy.Net net)) is = is
 net_policy-well (item.Policy (policy.Admin other)) is = refl
 net_policy-well (item.Policy (policy.Base other)) is = refl
 net_policy-well (item.Object _) is = refl
 
-admin_policy-well : (one : Item) → IsWellItem one → option_all is_well_admin_policy (admin_policy one) ≡ true
+admin_policy-well : (one : Item) → IsWellItem one → option_all is_well_admin_policy (admin_policy_in one) ≡ true
 admin_policy-well (item.Policy (policy.Admin admin)) is = is
 admin_policy-well (item.Policy (policy.Net other)) is = refl
 admin_policy-well (item.Policy (policy.Base other)) is = refl
 admin_policy-well (item.Object _) is = refl
 
-base_policy-well : (one : Item) → IsWellItem one → option_all is_well_base_policy (base_policy one) ≡ true
+base_policy-well : (one : Item) → IsWellItem one → option_all is_well_base_policy (base_policy_in one) ≡ true
 base_policy-well (item.Policy (policy.Base base)) is = is
 base_policy-well (item.Policy (policy.Net other)) is = refl
 base_policy-well (item.Policy (policy.Admin other)) is = refl
 base_policy-well (item.Object _) is = refl
 
-first_of-well : (bases : List BasePolicy) → AllByRecursion (λ base. is_well_base_policy base ≡ true) bases → option_map_or is_well_base_policy (first_of bases) true ≡ true
+first_of-well : (bases : List BasePolicy) → AllByRecursion (λ base. is_well_base_policy base ≡ true) bases → option_map_or is_well_base_policy (first_item bases) true ≡ true
 first_of-well [] all = refl
 first_of-well (base ∷ bases) all = all.0
 
 -- ---- services and ingresses
 
-service-well : (one : Item) → IsWellItem one → option_all is_well_service (service one) ≡ true
-service-well (item.Object (object.Service service)) is = is
+service-well : (one : Item) → IsWellItem one → option_all is_well_service (service_in one) ≡ true
+service-well (item.Object (object.Service service_in)) is = is
 service-well (item.Object (object.Pod other)) is = refl
 service-well (item.Object (object.Namespace other)) is = refl
 service-well (item.Object (object.Controller other)) is = refl
@@ -55,8 +55,8 @@ service-well (item.Object (object.Ingress other)) is = refl
 service-well (item.Object object.Other) is = refl
 service-well (item.Policy other) is = refl
 
-ingress-well : (one : Item) → IsWellItem one → option_all is_well_ingress (ingress one) ≡ true
-ingress-well (item.Object (object.Ingress ingress)) is = is
+ingress-well : (one : Item) → IsWellItem one → option_all is_well_ingress (ingress_in one) ≡ true
+ingress-well (item.Object (object.Ingress ingress_in)) is = is
 ingress-well (item.Object (object.Pod other)) is = refl
 ingress-well (item.Object (object.Namespace other)) is = refl
 ingress-well (item.Object (object.Controller other)) is = refl
@@ -66,7 +66,7 @@ ingress-well (item.Policy other) is = refl
 
 ingresses_from-well : (number : ℕ) (items : List Item) → AllByRecursion IsWellItem items → list_all (λ placed. is_well_ingress placed.ingress) (ingresses_from number items) ≡ true
 ingresses_from-well number [] all = refl
-ingresses_from-well number (one ∷ items) all = by (ingress one) (ingress-well one all.0) (ingresses_from-well (number + 1) items all.1)
+ingresses_from-well number (one ∷ items) all = by (ingress_in one) (ingress-well one all.0) (ingresses_from-well (number + 1) items all.1)
   where
     by : (o : Option IngressItem) → option_all is_well_ingress o ≡ true → list_all (λ placed. is_well_ingress placed.ingress) (ingresses_from (number + 1) items) ≡ true →
         list_all (λ placed. is_well_ingress placed.ingress) (placed number o ++ ingresses_from (number + 1) items) ≡ true
@@ -104,22 +104,22 @@ estate_of_items-well items all =
     nets : list_all is_well_net_policy (net_policies_of items) ≡ true
     nets = list_all-from_all is_well_net_policy (net_policies_of items)
         (all-net_policies (λ net. is_well_net_policy net ≡ true) items
-        (all-filter_map net_policy IsWellItem (λ net. is_well_net_policy net ≡ true) (λ one net is well. some_passes is_well_net_policy (net_policy one) net is (net_policy-well one well)) items each))
+        (all-filter_map net_policy_in IsWellItem (λ net. is_well_net_policy net ≡ true) (λ one net is well. some_passes is_well_net_policy (net_policy_in one) net is (net_policy-well one well)) items each))
 
     admins : list_all is_well_admin_policy (admin_policies_of items) ≡ true
     admins = list_all-from_all is_well_admin_policy (admin_policies_of items)
         (all-admin_policies (λ admin. is_well_admin_policy admin ≡ true) items
-        (all-filter_map admin_policy IsWellItem (λ admin. is_well_admin_policy admin ≡ true)
-        (λ one admin is well. some_passes is_well_admin_policy (admin_policy one) admin is (admin_policy-well one well)) items each))
+        (all-filter_map admin_policy_in IsWellItem (λ admin. is_well_admin_policy admin ≡ true)
+        (λ one admin is well. some_passes is_well_admin_policy (admin_policy_in one) admin is (admin_policy-well one well)) items each))
 
     base : option_map_or is_well_base_policy (baseline_of items) true ≡ true
-    base = first_of-well (filter_map base_policy items)
-        (all-filter_map base_policy IsWellItem (λ base. is_well_base_policy base ≡ true)
-        (λ one base is well. some_passes is_well_base_policy (base_policy one) base is (base_policy-well one well)) items each)
+    base = first_of-well (filter_map base_policy_in items)
+        (all-filter_map base_policy_in IsWellItem (λ base. is_well_base_policy base ≡ true)
+        (λ one base is well. some_passes is_well_base_policy (base_policy_in one) base is (base_policy-well one well)) items each)
 
     services : list_all is_well_service (services_of items) ≡ true
     services = list_all-from_all is_well_service (services_of items)
-        (all-filter_map service IsWellItem (λ found. is_well_service found ≡ true) (λ one found is well. some_passes is_well_service (service one) found is (service-well one well)) items each)
+        (all-filter_map service_in IsWellItem (λ found. is_well_service found ≡ true) (λ one found is well. some_passes is_well_service (service_in one) found is (service-well one well)) items each)
 
     ingresses : list_all (λ placed. is_well_ingress placed.ingress) (ingresses_of items) ≡ true
     ingresses = ingresses_from-well 1 items each

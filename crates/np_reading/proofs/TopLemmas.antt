@@ -6,7 +6,7 @@ use Rattle.std.specs.List.{slice_get}
 use Rattle.std.specs.Option.{option_flatten, option_or}
 use Rattle.std.proofs.lemmas.Option.{slice_get-map}
 use Rattle.np_owners.proofs.Walks.{chain_none}
-use Rattle.np_owners.specs.Prelude.{by_name, by_reference, last_of, last_owner, named, owner_place, top, top_owner, up, ups}
+use Rattle.np_owners.specs.Prelude.{by_reference, last_of, last_owner, object_named, owner_named, owner_place, top, top_owner, up, ups}
 use Rattle.np_reading.specs.Prelude.{Item, OwnerRef, PodItem, named_or_itself}
 use Rattle.np_items.specs.declared.item.Item.TheVariants as item
 use Rattle.np_objects.specs.declared.object.Object.TheVariants as object
@@ -20,7 +20,7 @@ top_owner-unlisted items place one at alone =
 last_owner-pod : (pod : PodItem) → last_owner (item.Object (object.Pod pod)) ≡ Some (named_or_itself pod)
 last_owner-pod pod = by pod.owner
   where
-    by : (o : Option OwnerRef) → option_or (option_map by_reference o) (option_map by_name (named (codes "Pod") pod.namespace pod.name)) ≡ Some (unwrap_or (option_map by_reference o) (record { kind = codes "Pod"; name = pod.name }))
+    by : (o : Option OwnerRef) → option_or (option_map by_reference o) (option_map owner_named (object_named (codes "Pod") pod.namespace pod.name)) ≡ Some (unwrap_or (option_map by_reference o) (record { kind = codes "Pod"; name = pod.name }))
     by None = refl
     by (Some owner) = refl
 

@@ -5,7 +5,7 @@ use Rattle.np_reading.specs.Namespaces.{namespace_labels}
 use Rattle.np_reading.specs.Types.{ControllerItem, Item, Object, Owner, Pair, Pod, PodContext, PodItem, Template}
 use Rattle.np_items.specs.declared.item.Item.TheVariants as item
 use Rattle.np_objects.specs.declared.object.Object.TheVariants as object
-use Rattle.np_owners.specs.Prelude.{makes_pod, name_of, top_owner}
+use Rattle.np_owners.specs.Prelude.{makes_pod, name_of_item, top_owner}
 
 -- ---- which items give a pod
 
@@ -27,7 +27,7 @@ context labels owner = record { namespace_labels = labels; owner = owner }
 
 -- what the rest of the list says of the pod of an item whose top owner is known: the labels of its namespace besides
 abbrev pub context_of : List Item → Item → Option Owner → Option PodContext
-context_of items one owner = option_and_then (λ name. option_map (context (namespace_labels items name.namespace)) owner) (name_of one)
+context_of items one owner = option_and_then (λ name. option_map (context (namespace_labels items name.namespace)) owner) (name_of_item one)
 
 -- what the rest of the list says of the pod of the item at a place, if the item gives one
 abbrev pub context_at : List Item → ℕ → Item → Option PodContext
@@ -65,18 +65,18 @@ made_pod controller around template = record {
   listed = false;
 }
 
-abbrev pub end_of_object : Object → PodContext → Option Pod
-end_of_object (object.Pod pod) around = Some (listed_pod pod around)
-end_of_object (object.Controller controller) around = option_map (made_pod controller around) controller.template
-end_of_object _ around = None
+abbrev pub pod_of_object : Object → PodContext → Option Pod
+pod_of_object (object.Pod pod) around = Some (listed_pod pod around)
+pod_of_object (object.Controller controller) around = option_map (made_pod controller around) controller.template
+pod_of_object _ around = None
 
-abbrev pub end_of : Item → PodContext → Option Pod
-end_of (item.Object object) around = end_of_object object around
-end_of (item.Policy policy) around = None
+abbrev pub pod_of_item : Item → PodContext → Option Pod
+pod_of_item (item.Object object) around = pod_of_object object around
+pod_of_item (item.Policy policy) around = None
 
 -- the pod that the item at a place gives, if it gives one
 abbrev pub pod_at_item : List Item → ℕ → Item → Option Pod
-pod_at_item items place one = option_and_then (end_of one) (context_at items place one)
+pod_at_item items place one = option_and_then (pod_of_item one) (context_at items place one)
 
 -- the pods that items give, the first of which stands at a place
 abbrev pub pods_from : List Item → ℕ → List Item → List Pod

@@ -15,25 +15,25 @@ use Rattle.np_policies.specs.declared.policy.Policy.TheVariants as policy
 
 -- ---- what an item is
 
-abbrev pub net_policy : Item → Option NetPolicy
-net_policy (item.Policy (policy.Net net)) = Some net
-net_policy other = None
+abbrev pub net_policy_in : Item → Option NetPolicy
+net_policy_in (item.Policy (policy.Net net)) = Some net
+net_policy_in other = None
 
-abbrev pub admin_policy : Item → Option AdminPolicy
-admin_policy (item.Policy (policy.Admin admin)) = Some admin
-admin_policy other = None
+abbrev pub admin_policy_in : Item → Option AdminPolicy
+admin_policy_in (item.Policy (policy.Admin admin)) = Some admin
+admin_policy_in other = None
 
-abbrev pub base_policy : Item → Option BasePolicy
-base_policy (item.Policy (policy.Base base)) = Some base
-base_policy other = None
+abbrev pub base_policy_in : Item → Option BasePolicy
+base_policy_in (item.Policy (policy.Base base)) = Some base
+base_policy_in other = None
 
-abbrev pub service : Item → Option ServiceItem
-service (item.Object (object.Service one)) = Some one
-service other = None
+abbrev pub service_in : Item → Option ServiceItem
+service_in (item.Object (object.Service one)) = Some one
+service_in other = None
 
-abbrev pub ingress : Item → Option IngressItem
-ingress (item.Object (object.Ingress one)) = Some one
-ingress other = None
+abbrev pub ingress_in : Item → Option IngressItem
+ingress_in (item.Object (object.Ingress one)) = Some one
+ingress_in other = None
 
 -- ---- NetworkPolicies, in the order of their namespaces and then of their names
 
@@ -44,7 +44,7 @@ abbrev pub with_net : List (ObjectName × NetPolicy) → NetPolicy → List (Obj
 with_net entries net = insert_entry compare_names entries (net_name net) net
 
 abbrev pub net_policies_of : List Item → List NetPolicy
-net_policies_of items = map (λ entry. entry.1) (fold with_net [] (filter_map net_policy items))
+net_policies_of items = map (λ entry. entry.1) (fold with_net [] (filter_map net_policy_in items))
 
 -- ---- admin policies, in the order of their priorities
 
@@ -52,19 +52,19 @@ abbrev pub with_admin : List (ℕ × AdminPolicy) → AdminPolicy → List (ℕ 
 with_admin entries admin = insert_entry nat_cmp entries admin.priority admin
 
 abbrev pub admin_policies_of : List Item → List AdminPolicy
-admin_policies_of items = map (λ entry. entry.1) (fold with_admin [] (filter_map admin_policy items))
+admin_policies_of items = map (λ entry. entry.1) (fold with_admin [] (filter_map admin_policy_in items))
 
 -- ---- the baseline, services and ingresses, in the order of the items
 
-abbrev pub first_of : {X : Type 0} → List X → Option X
-first_of [] = None
-first_of (x ∷ xs) = Some x
+abbrev pub first_item : {X : Type 0} → List X → Option X
+first_item [] = None
+first_item (x ∷ xs) = Some x
 
 abbrev pub baseline_of : List Item → Option BasePolicy
-baseline_of items = first_of (filter_map base_policy items)
+baseline_of items = first_item (filter_map base_policy_in items)
 
 abbrev pub services_of : List Item → List ServiceItem
-services_of items = filter_map service items
+services_of items = filter_map service_in items
 
 abbrev pub placed : ℕ → Option IngressItem → List PlacedIngress
 placed number found = option_map_or (λ one. record { item = number; ingress = one } ∷ []) found []
@@ -72,7 +72,7 @@ placed number found = option_map_or (λ one. record { item = number; ingress = o
 -- ingresses with the numbers of their items, the first of which is `number`
 abbrev pub ingresses_from : ℕ → List Item → List PlacedIngress
 ingresses_from number [] = []
-ingresses_from number (one ∷ items) = placed number (ingress one) ++ ingresses_from (number + 1) items
+ingresses_from number (one ∷ items) = placed number (ingress_in one) ++ ingresses_from (number + 1) items
 
 abbrev pub ingresses_of : List Item → List PlacedIngress
 ingresses_of items = ingresses_from 1 items
@@ -95,7 +95,7 @@ rank_too entries (Some admin) = with_rank entries admin
 
 -- the admin policies by priority, and those of one priority by name
 abbrev pub by_rank : List Item → List (Rank × ⊤)
-by_rank items = fold with_rank [] (filter_map admin_policy items)
+by_rank items = fold with_rank [] (filter_map admin_policy_in items)
 
 abbrev pub ranks_of : List Item → List Rank
 ranks_of items = map (λ entry. entry.0) (by_rank items)

@@ -2,7 +2,7 @@
 use Rattle.std.specs.Prelude.{ℕ, List, ◌++◌, codes, decimal}
 use Rattle.np_reading.specs.Types.{Bad, Duplicate, EqualPriority, ItemsFault, NestedList, NoMemory, NotAList, NotJson, OwnerCycle, Refusal, TooManyItems}
 use Rattle.np_items.specs.declared.fault.ItemsFault.TheVariants as items
-use Rattle.np_json.specs.Prelude.{fault_text}
+use Rattle.np_json.specs.Prelude.{item_fault_text}
 use Rattle.np_owners.specs.declared.fault.ChainsFault.{ChainsFault}
 use Rattle.np_owners.specs.declared.fault.ChainsFault.TheVariants as chains
 use Rattle.np_owners.specs.declared.fault.PlacesFault.{PlacesFault}
@@ -33,7 +33,7 @@ refusal_text (NotJson input) = codes "input " ++ decimal input ++ codes ": NotJs
 refusal_text (NotAList input) = codes "input " ++ decimal input ++ codes ": NotAList"
 refusal_text (TooManyItems count) = codes "TooManyItems " ++ decimal count
 refusal_text (NestedList item) = codes "item " ++ decimal item ++ codes ": NestedList"
-refusal_text (Bad fault) = fault_text fault
+refusal_text (Bad fault) = item_fault_text fault
 refusal_text (Duplicate first second) = codes "items " ++ decimal first ++ codes " and " ++ decimal second ++ codes ": Duplicate"
 refusal_text (EqualPriority priority a b) = codes "EqualPriority " ++ decimal priority ++ codes ": " ++ a ++ codes ", " ++ b
 refusal_text (OwnerCycle name) = codes "OwnerCycle " ++ name

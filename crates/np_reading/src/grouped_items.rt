@@ -131,7 +131,7 @@ impl GroupedItems {
 
 // The pod that a listed one gives, where the rest of the list is known.
 fn listed_end(pod: PodItem, context: Option<PodContext>) -> Option<Pod>
-    ensures { result ≡ option_and_then (ends.end_of_object (object.Pod pod)) context }
+    ensures { result ≡ option_and_then (ends.pod_of_object (object.Pod pod)) context }
 {
     match context {
         Some(context) => Some(listed_pod(pod, context)),
@@ -141,7 +141,7 @@ fn listed_end(pod: PodItem, context: Option<PodContext>) -> Option<Pod>
 
 // The pod that a controller gives, where the rest of the list is known.
 fn made_end(alloc: Global, controller: ControllerItem, context: Option<PodContext>) -> Option<Pod>
-    ensures { result ≡ option_and_then (ends.end_of_object (object.Controller controller)) context }
+    ensures { result ≡ option_and_then (ends.pod_of_object (object.Controller controller)) context }
 {
     match context {
         Some(context) => made_pod(alloc, controller, context),

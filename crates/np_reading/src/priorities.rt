@@ -66,7 +66,7 @@ fn by_rank(alloc: Global, items: &[Item]) -> Result<BTreeMap<Rank, ()>, NoMemory
 
 // Puts the rank of an item in its place, if it is an admin policy.
 fn note_rank(ranks: &mut BTreeMap<Rank, ()>, item: &Item) -> Result<(), NoMemory>
-    ensures { OnOk result (ranks.new.entries ≡ spec.rank_too ranks.old.entries (spec.admin_policy item.now)) }
+    ensures { OnOk result (ranks.new.entries ≡ spec.rank_too ranks.old.entries (spec.admin_policy_in item.now)) }
 {
     let Some(admin) = admin_policy(item) else {
         return Ok(());
@@ -81,7 +81,7 @@ fn note_rank(ranks: &mut BTreeMap<Rank, ()>, item: &Item) -> Result<(), NoMemory
 
 // The admin policy that an item is.
 fn admin_policy(item: &Item) -> Option<&AdminPolicy>
-    ensures { option_copied result ≡ spec.admin_policy item.now }
+    ensures { option_copied result ≡ spec.admin_policy_in item.now }
 {
     match item {
         Item::Policy(Policy::Admin(admin)) => Some(admin),

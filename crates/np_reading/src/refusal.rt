@@ -2,7 +2,7 @@
 
 use np_base::{NoMemory, Text};
 use np_items::ItemsFault;
-use np_json::Fault;
+use np_json::ObjectFault;
 use np_owners::{ChainsFault, PlacesFault};
 use std::fmt;
 
@@ -19,7 +19,7 @@ pub enum Refusal {
     /// The item of this number, from 1 over all inputs, is itself a list: its kind ends in `List`.
     NestedList { item: u64 },
     /// An item has this fault first.
-    Bad(Fault),
+    Bad(ObjectFault),
     /// The items of these numbers, from 1 over all inputs, have the same kind, namespace and name. `second` is the
     /// least number of an item that repeats an earlier one, and `first` is the number of that one.
     Duplicate { first: u64, second: u64 },

@@ -1,7 +1,7 @@
 -- Tables that say the same have the same rows. For `equal_tables_print_equal_bytes`.
 use Rattle.std.proofs.Common.{◌≡◌, ℕ, zero, suc, ◌+◌, ◌-◌, ◌^◌, ◌<◌, ◌≤◌, List, [], ◌∷◌, ◌++◌, true, None, length, map, refl, ap, ◌∙◌, arith}
 use Rattle.std.specs.List.{flat_map, range_with_len}
-use Rattle.np_report.specs.Prelude.{AreSameTables, Direction, Family, Format, Four, Query, Report, Row, RowKey, SayTheSame, Six, is_shown, list_text, report_text, shown, texts_of}
+use Rattle.np_report.specs.Prelude.{AreSameTables, Direction, Family, Format, Four, Query, Report, Row, RowKey, SayTheSame, Six, asked_rows, is_shown, list_text, report_text, texts_of}
 use Rattle.np_model.proofs.FamilyLemmas.{same_family-itself}
 use Rattle.np_conns.specs.Prelude.{Conns, conns_of}
 use Rattle.np_model.specs.declared.direction.Direction.TheVariants.{Egress, Ingress}
@@ -105,5 +105,5 @@ module _ (a b : ClusterTable) (same : SayTheSame a b) where
   pub list_text-same : (query : Query) (format : Format) (report : Report) → list_text a query format report ≡ list_text b query format report
   unfolding list_text
   list_text-same query format report =
-      ap (λ (names : List (List ℕ)). report_text format (texts_of names report (shown query (cluster_rows a)))) same.tables.names
-      ∙ ap (λ (rows : List Row). report_text format (texts_of b.table.names report (shown query rows))) cluster_rows-same
+      ap (λ (names : List (List ℕ)). report_text format (texts_of names report (asked_rows query (cluster_rows a)))) same.tables.names
+      ∙ ap (λ (rows : List Row). report_text format (texts_of b.table.names report (asked_rows query rows))) cluster_rows-same

@@ -12,12 +12,12 @@ use Rattle.np_table.specs.Prelude.{AllowSamePorts, Table}
 -- ---- the text
 
 -- the rows that a query asks for among some, in their order
-abbrev pub shown : Query → List Row → List Row
-shown query rows = filter (λ row. keeps query row.key) rows
+abbrev pub asked_rows : Query → List Row → List Row
+asked_rows query rows = filter (λ row. keeps query row.key) rows
 
 -- the rows of a cluster that a query asks for
 abbrev pub shown_rows : ClusterTable → Query → List Row
-shown_rows cluster query = shown query (cluster_rows cluster)
+shown_rows cluster query = asked_rows query (cluster_rows cluster)
 
 -- their texts, where the workloads have these names
 abbrev pub texts_of : List (List ℕ) → Report → List Row → List RowText
@@ -29,7 +29,7 @@ list_text cluster query format report = report_text format (texts_of cluster.tab
 
 -- what is still to come of it while these rows are, where one knows whether a row came before
 unfoldable pub rows_to_come : Form → List (List ℕ) → Query → Report → Bool → List Row → List ℕ
-rows_to_come form names query report came rows = text_to_come form came (texts_of names report (shown query rows))
+rows_to_come form names query report came rows = text_to_come form came (texts_of names report (asked_rows query rows))
 
 -- ---- tables that say the same
 

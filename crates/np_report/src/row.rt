@@ -46,7 +46,7 @@ fn end_text(
     end: RowEnd,
     report: Report,
 ) -> Result<Text, NoMemory>
-    ensures { IfOk result (λ text. text ≡ spec.end_text (spec.names_of workloads.now) report end) }
+    ensures { IfOk result (λ text. text ≡ spec.row_end_text (spec.names_of workloads.now) report end) }
 {
     match end {
         RowEnd::Work(number) => Text::of(alloc, name_of(workloads, number)),

@@ -10,12 +10,12 @@ use Rattle.np_base.specs.Ranges.{holds}
 use Rattle.np_base.specs.declared.range.Range.{Range}
 use Rattle.np_conns.specs.Prelude.{Conns, conns_of, has_spot, is_spot, ranges_of}
 use Rattle.np_model.specs.Prelude.{IsLawful}
-use Rattle.np_fold.specs.Prelude.{Folding, Workload, folding_of, number_of}
+use Rattle.np_fold.specs.Prelude.{Folding, Workload, folding_of, workload_number}
 use Rattle.np_model.specs.declared.direction.Direction.{Direction}
 use Rattle.np_routes.proofs.ReachedLemmas.{number-workload, reaches-allows}
 use Rattle.np_table.proofs.RowLemmas.{HasKey, filter-by, filter-flat_map, filter-map_none, pair_rows-key, range-none, range-only}
 use Rattle.np_conns.proofs.ConnLemmas.{conns_of-has}
-use Rattle.np_table.specs.Prelude.{Table, address_rows, all_address_rows, all_pair_rows, all_rows, allows_in, estate_table, is_between, is_none, is_nothing, is_of_address, is_workload, pair_key, pair_rows, row_if, row_of, rows_between, rows_of_address, rows_towards, table_of, workloads}
+use Rattle.np_table.specs.Prelude.{Table, address_rows, all_address_rows, all_pair_rows, all_rows, allows_in, estate_table, has_no_range, is_between, is_nothing, is_of_address, is_workload, pair_key, pair_rows, row_if, row_of, rows_between, rows_of_address, rows_towards, table_of, workloads}
 use Rattle.np_kinds.specs.Prelude.{IsWorkload, number_of_workloads}
 
 -- ---- a row from the controller
@@ -127,15 +127,15 @@ rows_from_controller-cluster cluster workload within =
 
 -- ---- what they say
 
-holds-none : (ranges : List (Range ℕ)) (port : ℕ) → is_none ranges ≡ true → holds (λ p. p) ranges port ≡ false
+holds-none : (ranges : List (Range ℕ)) (port : ℕ) → has_no_range ranges ≡ true → holds (λ p. p) ranges port ≡ false
 holds-none [] port none = refl
 holds-none (range ∷ ranges) port none = absurd (false≢true none)
 
 -- a set without ranges has no port
 pub has_spot-nothing : (conns : Conns) (spot : PortSpot) → is_nothing conns ≡ true → has_spot conns spot ≡ false
 has_spot-nothing conns spot nothing =
-    let both = and_parts (is_none conns.tcp && is_none conns.udp) (is_none conns.sctp) nothing in
-    let parts = and_parts (is_none conns.tcp) (is_none conns.udp) both.0 in
+    let both = and_parts (has_no_range conns.tcp && has_no_range conns.udp) (has_no_range conns.sctp) nothing in
+    let parts = and_parts (has_no_range conns.tcp) (has_no_range conns.udp) both.0 in
     elim spot.proto as (λ proto. holds (λ p. p) (ranges_of conns proto) spot.port ≡ false) [
       | Tcp ↦ holds-none conns.tcp spot.port parts.0
       | Udp ↦ holds-none conns.udp spot.port parts.1
@@ -200,10 +200,10 @@ allows_in-workloads lists controller workload family spot within is =
 
 -- and so of each pod of it
 pub allows_in-pods : (lists : EstateLists) (controller : Option ℕ) (p : ℕ) (family : Family) (spot : PortSpot) → IsLawful lists → p < length lists.pods →
-    is_controller controller (number_of lists p) ≡ false → is_spot spot ≡ true →
-    allows_in (rows_from_controller (number_of lists p) (cluster_rows (cluster_table lists controller))) family spot ≡ ingress_reaches lists (sender_of (folding_of lists) controller) p spot
+    is_controller controller (workload_number lists p) ≡ false → is_spot spot ≡ true →
+    allows_in (rows_from_controller (workload_number lists p) (cluster_rows (cluster_table lists controller))) family spot ≡ ingress_reaches lists (sender_of (folding_of lists) controller) p spot
 allows_in-pods lists controller p family spot lawful p_in other is =
-    allows_in-workloads lists controller (number_of lists p) family spot (number-workload lists p p_in) is ∙ sym (reaches-allows lists controller p spot lawful p_in other)
+    allows_in-workloads lists controller (workload_number lists p) family spot (number-workload lists p p_in) is ∙ sym (reaches-allows lists controller p spot lawful p_in other)
 
 -- ---- rows of which a test of their ends keeps some
 

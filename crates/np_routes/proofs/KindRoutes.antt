@@ -10,14 +10,14 @@ use Rattle.np_conns.specs.Prelude.{same_proto}
 use Rattle.np_model.specs.Prelude.{IsLawful, families_of}
 use Rattle.np_fold.proofs.NamespaceLemmas.{labels_agree}
 use Rattle.np_fold.proofs.WorkloadLemmas.{one_workload}
-use Rattle.np_fold.specs.Prelude.{IsSameKind, keys_of_admin_policy, keys_of_baseline, keys_of_estate, keys_of_net_policy, keys_of_optional, keys_of_service, number_of}
+use Rattle.np_fold.specs.Prelude.{IsSameKind, keys_of_admin_policy, keys_of_baseline, keys_of_estate, keys_of_net_policy, keys_of_optional, keys_of_service, workload_number}
 use Rattle.np_fold.proofs.SelectorLemmas.{selector-agree}
 use Rattle.np_labels.specs.Prelude.{AgreeOn, meets_selector}
 use Rattle.np_labels.specs.declared.selector.Selector.{Selector}
 use Rattle.np_labels.proofs.Agreed.{All-from_listed}
 use Rattle.np_model.specs.declared.ingress.Backend.TheVariants as backend
 use Rattle.np_rules.proofs.DeciderLemmas.{decider_says}
-use Rattle.np_rules.specs.Prelude.{Contact, End, PodEnd, contact, decider_allows, is_named, no_pod, pod, pod_at, pod_end, stranger_end}
+use Rattle.np_rules.specs.Prelude.{Contact, ModelEnd, PodEnd, contact, decider_allows, is_named, no_pod, pod, pod_at, pod_end, stranger_end}
 use Rattle.np_rules.proofs.EachItem.{All-each, All-flat, list_any-same}
 use Rattle.np_kinds.proofs.KindVerdicts.{SameKindEnd-ends, got-same, packet-same}
 use Rattle.np_kinds.proofs.PairLemmas.{pod_there}
@@ -125,7 +125,7 @@ alike-by lists p q a b lawful is is' kind =
     }
 
 -- so are those of one workload
-pub one_workload-alike : (lists : EstateLists) (p q : ℕ) → IsLawful lists → p < length lists.pods → q < length lists.pods → number_of lists p ≡ number_of lists q → AreAlikeAt lists p q
+pub one_workload-alike : (lists : EstateLists) (p q : ℕ) → IsLawful lists → p < length lists.pods → q < length lists.pods → workload_number lists p ≡ workload_number lists q → AreAlikeAt lists p q
 one_workload-alike lists p q lawful p_in q_in same =
     let a = pod_there lists p p_in in
     let b = pod_there lists q q_in in
@@ -135,7 +135,7 @@ one_workload-alike lists p q lawful p_in q_in same =
 
 anyone-same : (lists : EstateLists) (p q : PodEnd) (spot : PortSpot) → AreOneKind lists (pod p) (pod q) → unlabelled_may_send lists p spot ≡ unlabelled_may_send lists q spot
 anyone-same lists p q spot kind =
-    let anyone : End = pod (stranger_end any_controller) in
+    let anyone : ModelEnd = pod (stranger_end any_controller) in
     let at : PodEnd → Contact = λ near. contact Ingress (pod near) anyone Four spot in
     sym (decider_says lists Ingress (pod p) (at p))
     ∙ ap decider_allows (got-same lists Four spot anyone anyone (pod p) (pod q) (SameKindEnd-ends lists anyone anyone (inr refl)) (SameKindEnd-ends lists (pod p) (pod q) kind))
@@ -145,7 +145,7 @@ sent-same : (lists : EstateLists) (sender : Option ℕ) (p q : ℕ) (spot : Port
     may_send lists sender p spot ≡ may_send lists sender q spot
 sent-same lists None p q spot kind = anyone-same lists (pod_at lists p) (pod_at lists q) spot kind
 sent-same lists (Some sender) p q spot kind =
-    let from : End = pod (pod_at lists sender) in
+    let from : ModelEnd = pod (pod_at lists sender) in
     list_any-same (λ family. between_pods lists sender p family spot) (λ family. between_pods lists sender q family spot) (families_of lists.pods)
     (All-each (λ family. between_pods lists sender p family spot ≡ between_pods lists sender q family spot)
     (λ family. packet-same lists family spot from from (pod (pod_at lists p)) (pod (pod_at lists q)) (SameKindEnd-ends lists from from (inr refl)) (SameKindEnd-ends lists _ _ kind))

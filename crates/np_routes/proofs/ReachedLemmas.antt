@@ -11,7 +11,7 @@ use Rattle.np_routes.specs.Prelude.{Egress, EstateLists, Family, Four, Ingress, 
 use Rattle.np_conns.specs.Prelude.{Conns, IsConns, conns_of, has_spot, is_spot}
 use Rattle.np_model.specs.Prelude.{IsLawful, families_of, has_family, or_four}
 use Rattle.np_fold.proofs.WorkloadLemmas.{number-in_workloads}
-use Rattle.np_fold.specs.Prelude.{folding_of, members_of, number_of}
+use Rattle.np_fold.specs.Prelude.{folding_of, members_of, workload_number}
 use Rattle.np_routes.proofs.KindRoutes.{one_workload-alike, reaches-same}
 use Rattle.np_rules.specs.Prelude.{pod_at, side_of, side_rule_count}
 use Rattle.np_kinds.proofs.MemberLemmas.{member-number, members-some, members-within, own-member, source-member}
@@ -130,7 +130,7 @@ set-of_other lists controller workload place backends sender made other stands s
 -- ---- every pod of a workload
 
 -- the number of a pod's workload is a workload's
-pub number-workload : (lists : EstateLists) (place : ℕ) → place < length lists.pods → IsWorkload lists (number_of lists place)
+pub number-workload : (lists : EstateLists) (place : ℕ) → place < length lists.pods → IsWorkload lists (workload_number lists place)
 unfolding folding_of
 number-workload lists place within = number-in_workloads lists place within
 
@@ -157,7 +157,7 @@ every_pod-of lists controller workload set lawful within is other p spot has in_
     ∙ sym (reaches-member lists controller workload p spot lawful within has other)
 
 -- folding loses no port that is reached
-pub reaches-allows : (lists : EstateLists) (controller : Option ℕ) (p : ℕ) (spot : PortSpot) → IsLawful lists → p < length lists.pods → is_controller controller (number_of lists p) ≡ false →
-    ingress_reaches lists (sender_of (folding_of lists) controller) p spot ≡ ingress_allows lists (folding_of lists) controller (number_of lists p) spot
+pub reaches-allows : (lists : EstateLists) (controller : Option ℕ) (p : ℕ) (spot : PortSpot) → IsLawful lists → p < length lists.pods → is_controller controller (workload_number lists p) ≡ false →
+    ingress_reaches lists (sender_of (folding_of lists) controller) p spot ≡ ingress_allows lists (folding_of lists) controller (workload_number lists p) spot
 reaches-allows lists controller p spot lawful p_in other =
-    reaches-member lists controller (number_of lists p) p spot lawful (number-workload lists p p_in) (own-member lists p p_in) other
+    reaches-member lists controller (workload_number lists p) p spot lawful (number-workload lists p p_in) (own-member lists p p_in) other

@@ -6,7 +6,7 @@ ghost use Rattle.np_conns.specs.declared.port_spot.PortSpot.{PortSpot};
 ghost use Rattle.np_conns.specs.declared.proto.Proto.TheVariants.{Tcp};
 ghost use Rattle.np_model.specs.Prelude.{IsLawful};
 ghost use Rattle.np_model.specs.declared.lists.EstateLists.{EstateLists};
-ghost use Rattle.np_fold.specs.Prelude.{folding_of, number_of};
+ghost use Rattle.np_fold.specs.Prelude.{folding_of, workload_number};
 ghost use Rattle.np_model.specs.declared.direction.Direction.{Direction};
 ghost use Rattle.np_routes.specs.Prelude.{ClusterTable, LeadsTo, cluster_rows, cluster_table, ingress_allows, ingress_reaches, is_controller, is_routed, rows_from_controller, sender_of};
 ghost use Rattle.np_rules.specs.Prelude.{PodEnd};
@@ -28,9 +28,9 @@ pub fn ingresses_lead_as_the_api_says()
 pub fn workloads_stand_for_their_pods_behind_ingresses()
     ensures { (lists : EstateLists) (controller : Option ℕ) (p : ℕ) (spot : PortSpot) → IsLawful lists →
         p < length lists.pods →
-        is_controller controller (number_of lists p) ≡ false →
+        is_controller controller (workload_number lists p) ≡ false →
         ingress_reaches lists (sender_of (folding_of lists) controller) p spot
-        ≡ ingress_allows lists (folding_of lists) controller (number_of lists p) spot }
+        ≡ ingress_allows lists (folding_of lists) controller (workload_number lists p) spot }
 {}
 
 /// Of all rows of a cluster one at most is from the controller to a workload. It says exactly which ports of the workload
@@ -47,8 +47,8 @@ pub fn ingress_rows_say_what_passes()
         ≡ ingress_allows lists (folding_of lists) controller workload spot }
     ensures pods { (lists : EstateLists) (controller : Option ℕ) (p : ℕ) (family : Family) (spot : PortSpot) → IsLawful lists →
         p < length lists.pods →
-        is_controller controller (number_of lists p) ≡ false → is_spot spot ≡ true →
-        allows_in (rows_from_controller (number_of lists p) (cluster_rows (cluster_table lists controller))) family spot
+        is_controller controller (workload_number lists p) ≡ false → is_spot spot ≡ true →
+        allows_in (rows_from_controller (workload_number lists p) (cluster_rows (cluster_table lists controller))) family spot
         ≡ ingress_reaches lists (sender_of (folding_of lists) controller) p spot }
 {}
 

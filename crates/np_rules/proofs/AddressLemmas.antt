@@ -5,7 +5,7 @@ use Rattle.std.specs.List.{list_any}
 use Rattle.std.proofs.lemmas.Bool.Decides.{nat_tests}
 use Rattle.std.proofs.lemmas.Bool.{and_left, and_parts}
 use Rattle.np_addr.specs.Prelude.{AddressRanges, IsAddress, set_has}
-use Rattle.np_rules.specs.Prelude.{Address, AddressSpot, AdminRule, At, Direction, End, First, NetPeer, NetRule, Piece, PortSpot, Second, Six, Which, address, address_contact, address_of, admin_entry_matches, admin_peer_has, admin_rule_matches, destination_of, has_address_spot, is_address_spot, net_entry_matches, net_peer_has, net_peer_matches, net_rule_matches, none_or_any, spot_of}
+use Rattle.np_rules.specs.Prelude.{Address, AddressSpot, AdminRule, At, Direction, First, ModelEnd, NetPeer, NetRule, Piece, PortSpot, Second, Six, Which, address, address_contact, address_of, admin_entry_matches, admin_peer_has, admin_rule_matches, destination_of, has_address_spot, is_address_spot, net_entry_matches, net_peer_has, net_peer_matches, net_rule_matches, none_or_any, spot_of}
 use Rattle.np_addr.specs.declared.address.Address.TheVariants.{Four}
 use Rattle.np_addr.proofs.BlockLemmas.{ranges_have}
 use Rattle.np_base.specs.Beside.{by_side}
@@ -77,7 +77,7 @@ none_or_any-same f g same [] = refl
 none_or_any-same f g same (x ∷ xs) = list_any-agrees f g same (x ∷ xs)
 
 -- what a rule of a NetworkPolicy matches at a place: its addresses, with the spots of its port entries
-pub net_at_place : (namespace : List ℕ) (rule : NetRule) (direction : Direction) (near : End) (addresses : AddressRanges) (conns : Conns) →
+pub net_at_place : (namespace : List ℕ) (rule : NetRule) (direction : Direction) (near : ModelEnd) (addresses : AddressRanges) (conns : Conns) →
     ((a : Address) → IsAddress a → set_has addresses a ≡ none_or_any (λ peer. net_peer_has peer a) rule.peers) →
     ((a : Address) (spot : PortSpot) → is_spot spot ≡ true → has_spot conns spot ≡ none_or_any (λ entry. net_entry_matches entry (destination_of direction near (address a)) spot) rule.ports) →
     (place : AddressSpot) → is_address_spot place ≡ true → (set_has addresses (address_of place) && has_spot conns (spot_of place)) ≡ net_rule_matches namespace rule (address_contact direction near place)
@@ -89,7 +89,7 @@ net_at_place namespace rule direction near addresses conns peers ports place wit
     ∙ ap (λ b. none_or_any (λ peer. net_peer_matches namespace peer (address a)) rule.peers && b) (ports a (spot_of place) parts.1)
 
 -- what an admin rule matches at a place
-pub admin_at_place : (rule : AdminRule) (direction : Direction) (near : End) (addresses : AddressRanges) (conns : Conns) →
+pub admin_at_place : (rule : AdminRule) (direction : Direction) (near : ModelEnd) (addresses : AddressRanges) (conns : Conns) →
     ((a : Address) → IsAddress a → set_has addresses a ≡ list_any (λ peer. admin_peer_has peer a) rule.peers) →
     ((a : Address) (spot : PortSpot) → is_spot spot ≡ true → has_spot conns spot ≡ none_or_any (λ entry. admin_entry_matches entry (destination_of direction near (address a)) spot) rule.ports) →
     (place : AddressSpot) → is_address_spot place ≡ true → (set_has addresses (address_of place) && has_spot conns (spot_of place)) ≡ admin_rule_matches rule (address_contact direction near place)
@@ -102,7 +102,7 @@ admin_at_place rule direction near addresses conns peers ports place within =
 -- ---- what a rule matches that has no address
 
 -- a rule of a NetworkPolicy without addresses matches nothing
-pub net_nowhere : (namespace : List ℕ) (rule : NetRule) (direction : Direction) (near : End) (addresses : AddressRanges) → ((spot : Which ℕ ℕ) → ranges_have addresses spot ≡ false) →
+pub net_nowhere : (namespace : List ℕ) (rule : NetRule) (direction : Direction) (near : ModelEnd) (addresses : AddressRanges) → ((spot : Which ℕ ℕ) → ranges_have addresses spot ≡ false) →
     ((a : Address) → IsAddress a → set_has addresses a ≡ none_or_any (λ peer. net_peer_has peer a) rule.peers) → (place : AddressSpot) → is_address_spot place ≡ true →
     net_rule_matches namespace rule (address_contact direction near place) ≡ false
 net_nowhere namespace rule direction near addresses none peers place within =
@@ -113,7 +113,7 @@ net_nowhere namespace rule direction near addresses none peers place within =
     ∙ set_has-nothing addresses none a)
 
 -- nor does an admin rule
-pub admin_nowhere : (rule : AdminRule) (direction : Direction) (near : End) (addresses : AddressRanges) → ((spot : Which ℕ ℕ) → ranges_have addresses spot ≡ false) →
+pub admin_nowhere : (rule : AdminRule) (direction : Direction) (near : ModelEnd) (addresses : AddressRanges) → ((spot : Which ℕ ℕ) → ranges_have addresses spot ≡ false) →
     ((a : Address) → IsAddress a → set_has addresses a ≡ list_any (λ peer. admin_peer_has peer a) rule.peers) → (place : AddressSpot) → is_address_spot place ≡ true →
     admin_rule_matches rule (address_contact direction near place) ≡ false
 admin_nowhere rule direction near addresses none peers place within =

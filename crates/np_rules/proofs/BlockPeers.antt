@@ -2,7 +2,7 @@
 use Rattle.std.proofs.Common.{◌≡◌, List, [], ◌∷◌, Bool, true, false, ◌&&◌, ◌||◌, refl, sym, ap, ◌∙◌, arith}
 use Rattle.std.specs.List.{list_any}
 use Rattle.std.proofs.Math.Bool.{or-false, and-false}
-use Rattle.np_addr.specs.Prelude.{cidr_has, some_has}
+use Rattle.np_addr.specs.Prelude.{cidr_has, some_block_has}
 use Rattle.np_rules.specs.Prelude.{Address, Cidr, Family, is_block_of, some_inside}
 use Rattle.np_addr.specs.declared.address.Address.TheVariants as at
 use Rattle.np_addr.specs.declared.address.Family.TheVariants as of
@@ -42,14 +42,14 @@ inside_none family (cidr ∷ cidrs) = by (is_block_of family cidr) (inside_none 
     by false rest = rest
 
 inside_more : (family : Family) (a : Address) (addresses : List Address) (cidrs : List Cidr) →
-    ((is_of family a && some_has cidrs a) || some_inside family cidrs addresses) ≡ some_inside family cidrs (a ∷ addresses)
+    ((is_of family a && some_block_has cidrs a) || some_inside family cidrs addresses) ≡ some_inside family cidrs (a ∷ addresses)
 inside_more family a addresses [] = or-false (is_of family a && false) ∙ and-false (is_of family a)
 inside_more family a addresses (cidr ∷ cidrs) =
-    shared (is_of family a) (cidr_has cidr a) (some_has cidrs a) (is_block_of family cidr) (list_any (cidr_has cidr) addresses) (some_inside family cidrs addresses) (block_family family cidr a)
+    shared (is_of family a) (cidr_has cidr a) (some_block_has cidrs a) (is_block_of family cidr) (list_any (cidr_has cidr) addresses) (some_inside family cidrs addresses) (block_family family cidr a)
     ∙ ap (λ b. (is_block_of family cidr && (cidr_has cidr a || list_any (cidr_has cidr) addresses)) || b) (inside_more family a addresses cidrs)
 
 -- address by address, and block by block
-pub by_blocks : (family : Family) (cidrs : List Cidr) (addresses : List Address) → list_any (λ a. is_of family a && some_has cidrs a) addresses ≡ some_inside family cidrs addresses
+pub by_blocks : (family : Family) (cidrs : List Cidr) (addresses : List Address) → list_any (λ a. is_of family a && some_block_has cidrs a) addresses ≡ some_inside family cidrs addresses
 by_blocks family cidrs [] = sym (inside_none family cidrs)
 by_blocks family cidrs (a ∷ addresses) =
-    ap (λ b. (is_of family a && some_has cidrs a) || b) (by_blocks family cidrs addresses) ∙ inside_more family a addresses cidrs
+    ap (λ b. (is_of family a && some_block_has cidrs a) || b) (by_blocks family cidrs addresses) ∙ inside_more family a addresses cidrs

@@ -5,7 +5,7 @@ use Rattle.std.specs.List.{AllByRecursion, list_any}
 use Rattle.std.proofs.lemmas.Bool.Decides.{nat_tests}
 use Rattle.np_base.proofs.Each.{All-weaker}
 use Rattle.np_base.proofs.Options.{some_is}
-use Rattle.np_rules.specs.Prelude.{Action, Allow, Contact, Decider, Deny, Direction, End, EstateLists, IsAmong, Pass, PlacedAdminRule, PlacedBaseRule, PlacedNetRule, PodEnd, RuleName, action_decides, action_says, address, admin_decider, admin_decides, admin_precedes, admin_rule_name, admin_says, base_decider, base_decides, base_says, decider, decider_allows, end_allows, is_isolated, isolating_names, least_by, lower_allows, lower_decider, net_decider, net_decides, net_places, net_precedes, permits, placed_net_matches, pod, side_allows, sooner}
+use Rattle.np_rules.specs.Prelude.{Action, Allow, Contact, Decider, Deny, Direction, EstateLists, IsAmong, ModelEnd, Pass, PlacedAdminRule, PlacedBaseRule, PlacedNetRule, PodEnd, RuleName, action_decides, action_says, address, admin_decider, admin_decides, admin_precedes, admin_rule_name, admin_says, base_decider, base_decides, base_says, decider, decider_allows, end_allows, is_isolated, isolating_names, least_by, lower_allows, lower_decider, net_decider, net_decides, net_places, net_precedes, permits, placed_net_matches, pod, side_allows, sooner}
 
 -- ---- what decides says what the side says
 
@@ -50,7 +50,7 @@ lower_part lists direction p contact pass = go (is_isolated lists.net_policies d
     go true = net_part pass names (net_decider lists.net_policies direction p contact) ∙ least_some net_precedes (placed_net_matches contact) (net_places lists.net_policies direction p)
     go false = base_part pass (base_decider lists.baseline direction p contact)
 
-pub decider_says : (lists : EstateLists) (direction : Direction) (end : End) (contact : Contact) → decider_allows (decider lists direction end contact) ≡ end_allows lists direction end contact
+pub decider_says : (lists : EstateLists) (direction : Direction) (end : ModelEnd) (contact : Contact) → decider_allows (decider lists direction end contact) ≡ end_allows lists direction end contact
 unfolding side_allows
 decider_says lists direction (pod p) contact = admin_part (admin_decider lists.admin_policies direction p contact) (lower_decider lists direction p contact) (lower_allows lists direction p contact)
     (lower_part lists direction p contact)

@@ -4,14 +4,14 @@ use Rattle.std.specs.List.{AllByRecursion, enumerate_from, list_any}
 use Rattle.std.specs.Option.{option_map_or}
 use Rattle.std.proofs.lemmas.Bool.{or_parts}
 use Rattle.np_base.proofs.Each.{All-weaker, All-append, All-if}
-use Rattle.np_rules.specs.Prelude.{AdminPeer, AdminPolicy, AdminRule, BasePolicy, Contact, Direction, Egress, End, EstateLists, Family, Ingress, Packet, PodEnd, address, admin_decider, admin_entry_matches, admin_peer_matches, admin_places, admin_places_of, admin_precedes, admin_rule_matches, admin_rules_of, admin_says, allows, base_decider, base_places, base_rules_of, base_says, contact_of, end_allows, has_networks, is_isolated, least_by, none_or_any, permits, pod, rules_list_networks, side_allows, subject_selects}
+use Rattle.np_rules.specs.Prelude.{AdminPeer, AdminPolicy, AdminRule, BasePolicy, Contact, Direction, Egress, EstateLists, Family, Ingress, ModelEnd, ModelPacket, PodEnd, address, admin_decider, admin_entry_matches, admin_peer_matches, admin_places, admin_places_of, admin_precedes, admin_rule_matches, admin_rules_of, admin_says, allows, base_decider, base_places, base_rules_of, base_says, contact_of, end_allows, has_networks, is_isolated, least_by, none_or_any, permits, pod, rules_list_networks, side_allows, subject_selects}
 use Rattle.np_model.specs.declared.admin_policy.AdminPeer.TheVariants.{Pods, Networks}
 use Rattle.np_model.specs.Prelude.{is_networks}
 use Rattle.np_rules.proofs.EachItem.{filter-same, find-same}
 
 -- ---- peers and rules
 
-peer_other : (peer : AdminPeer) (far : End) (one other : Family) → is_networks peer ≡ false → admin_peer_matches peer far one ≡ admin_peer_matches peer far other
+peer_other : (peer : AdminPeer) (far : ModelEnd) (one other : Family) → is_networks peer ≡ false → admin_peer_matches peer far one ≡ admin_peer_matches peer far other
 peer_other (Pods namespaces pods) (pod p) one other plain = refl
 peer_other (Pods namespaces pods) (address a) one other plain = refl
 peer_other (Networks cidrs) far one other plain = absurd (impossible plain)
@@ -19,7 +19,7 @@ peer_other (Networks cidrs) far one other plain = absurd (impossible plain)
     impossible : true ≡ false → ⊥
     impossible same = cc
 
-peers_other : (peers : List AdminPeer) (far : End) (one other : Family) → list_any is_networks peers ≡ false →
+peers_other : (peers : List AdminPeer) (far : ModelEnd) (one other : Family) → list_any is_networks peers ≡ false →
     list_any (λ peer. admin_peer_matches peer far one) peers ≡ list_any (λ peer. admin_peer_matches peer far other) peers
 peers_other [] far one other plain = refl
 peers_other (peer ∷ peers) far one other plain =
@@ -102,12 +102,12 @@ side_other lists direction p contact other plain =
     ∙ ap (λ decides. admin_says (admin_decider lists.admin_policies direction p contact)
     (if is_isolated lists.net_policies direction p then permits lists.net_policies direction p contact else base_says decides)) base
 
-end_other : (lists : EstateLists) (direction : Direction) (end : End) (contact : Contact) (other : Family) → has_networks lists ≡ false →
+end_other : (lists : EstateLists) (direction : Direction) (end : ModelEnd) (contact : Contact) (other : Family) → has_networks lists ≡ false →
     end_allows lists direction end (record contact { family = other }) ≡ end_allows lists direction end contact
 end_other lists direction (pod p) contact other plain = side_other lists direction p contact other plain
 end_other lists direction (address a) contact other plain = refl
 
-pub family_other : (lists : EstateLists) (packet : Packet) (other : Family) → has_networks lists ≡ false → allows lists (record packet { family = other }) ≡ allows lists packet
+pub family_other : (lists : EstateLists) (packet : ModelPacket) (other : Family) → has_networks lists ≡ false → allows lists (record packet { family = other }) ≡ allows lists packet
 unfolding allows
 family_other lists packet other plain =
     ap (λ b. b && end_allows lists Ingress packet.destination (record (contact_of Ingress packet) { family = other })) (end_other lists Egress packet.source (contact_of Egress packet) other plain)

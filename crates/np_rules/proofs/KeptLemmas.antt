@@ -2,7 +2,7 @@
 use Rattle.std.proofs.Common.{◌≡◌, ℕ, List, [], ◌∷◌, Bool, true, false, filter, find, map, Option, refl, sym, ap, subst, ◌∙◌, if◌then◌else◌}
 use Rattle.std.specs.List.{list_any}
 use Rattle.std.proofs.lemmas.Bool.{and_left, false≢true, or_from, or_parts}
-use Rattle.np_rules.specs.Prelude.{Address, AdminPeer, AdminRule, Contact, End, Family, IsAdminPart, IsBasePart, IsSetOf, KeepsRules, Layer, NetPeer, NetRule, Pairwise, PlacedAdminRule, PlacedNetRule, PodSide, address, admin_entry_matches, admin_peer_matches, admin_places, admin_rule_matches, admin_rule_of_addresses, admin_says, base_places, base_says, is_block, is_networks, matches_of, near_pod, net_entry_matches, net_peer_matches, net_places, net_rule_matches, net_rule_of_addresses, none_or_any, placed_net_matches, side_allows}
+use Rattle.np_rules.specs.Prelude.{Address, AdminPeer, AdminRule, Contact, Family, IsAdminPart, IsBasePart, IsSetOf, KeepsRules, Layer, ModelEnd, NetPeer, NetRule, Pairwise, PlacedAdminRule, PlacedNetRule, PodSide, address, admin_entry_matches, admin_peer_matches, admin_places, admin_rule_matches, admin_rule_of_addresses, admin_says, base_places, base_says, is_block, is_networks, matches_of, near_pod, net_entry_matches, net_peer_matches, net_places, net_rule_matches, net_rule_of_addresses, none_or_any, placed_net_matches, side_allows}
 use Rattle.np_model.specs.declared.admin_policy.AdminPeer.TheVariants as admin
 use Rattle.np_model.specs.declared.network_policy.NetPeer.TheVariants as net
 use Rattle.np_rules.proofs.FilterLemmas.{any_kept, find_kept}
@@ -35,13 +35,13 @@ net_rule_nowhere : (namespace : List ℕ) (contact : Contact) (a : Address) → 
     net_rule_matches namespace rule contact ≡ false
 net_rule_nowhere namespace contact a far rule none =
     and_left _ (none_or_any (λ entry. net_entry_matches entry contact.destination contact.spot) rule.ports)
-    (ap (λ (end : End). none_or_any (λ peer. net_peer_matches namespace peer end) rule.peers) far
+    (ap (λ (end : ModelEnd). none_or_any (λ peer. net_peer_matches namespace peer end) rule.peers) far
     ∙ none_quieter is_block (λ peer. net_peer_matches namespace peer (address a)) rule.peers (net_peer_nowhere namespace a) none)
 
 admin_rule_nowhere : (contact : Contact) (a : Address) → contact.far ≡ address a → (rule : AdminRule) → admin_rule_of_addresses rule ≡ false → admin_rule_matches rule contact ≡ false
 admin_rule_nowhere contact a far rule none =
     and_left _ (none_or_any (λ entry. admin_entry_matches entry contact.destination contact.spot) rule.ports)
-    (ap (λ (end : End). list_any (λ peer. admin_peer_matches peer end contact.family) rule.peers) far
+    (ap (λ (end : ModelEnd). list_any (λ peer. admin_peer_matches peer end contact.family) rule.peers) far
     ∙ quieter is_networks (λ peer. admin_peer_matches peer (address a) contact.family) rule.peers (admin_peer_nowhere a contact.family) none)
 
 -- ---- what is left out

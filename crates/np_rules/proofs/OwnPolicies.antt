@@ -13,7 +13,7 @@ use Rattle.std.proofs.lemmas.List.{append-nil, get_or-drop, get_or-take, length-
 use Rattle.std.proofs.lemmas.List.Elements.{filter-append}
 use Rattle.std.proofs.lemmas.List.Sorted.{searchable_from_sorted}
 use Rattle.std.proofs.lemmas.Map.Text.{is_eq-slice_cmp}
-use Rattle.np_model.specs.Prelude.{StandsBefore, comes_before}
+use Rattle.np_model.specs.Prelude.{PolicyStandsBefore, decides_before}
 use Rattle.np_rules.specs.Prelude.{Direction, NetPolicy, PodEnd, is_isolated, isolates}
 use Rattle.np_rules.proofs.FilterLemmas.{any_kept, filter_kept}
 
@@ -34,11 +34,11 @@ own-is_isolated direction p policies = any_kept (isolates direction p) (λ polic
 abbrev pub compared : List ℕ → NetPolicy → Ordering
 compared namespace policy = slice_cmp nat_cmp policy.namespace namespace
 
-module _ (policies : List NetPolicy) (ascending : AllPairs StandsBefore policies) (namespace : List ℕ) where
+module _ (policies : List NetPolicy) (ascending : AllPairs PolicyStandsBefore policies) (namespace : List ℕ) where
   not_lower : IsSortedBy (λ (a b : NetPolicy). is_lt (slice_cmp nat_cmp a.namespace b.namespace)) policies
   not_lower k d low high = ap is_lt (nat_list_cmp_total.antisymm (get_or policies (k + 1) d).namespace (get_or policies k d).namespace) ∙ turned _ _ (ascending k (k + 1) d (omega arith) high)
     where
-      turned : (first second : Ordering) → IsTrue (comes_before first second) → is_lt (ordering_reverse first) ≡ false
+      turned : (first second : Ordering) → IsTrue (decides_before first second) → is_lt (ordering_reverse first) ≡ false
       turned Less second before = refl
       turned Equal second before = refl
       turned Greater Less before = absurd (false≢true before)

@@ -3,7 +3,7 @@ use Rattle.std.proofs.Common.{◌≡◌, ℕ, ◌+◌, ◌<◌, List, [], ◌∷
 use Rattle.std.specs.List.{AllByRecursion, list_any}
 use Rattle.std.proofs.lemmas.List.{map-append, take_more}
 use Rattle.std.proofs.Math.Bool.{or-false}
-use Rattle.np_rules.specs.Prelude.{Address, AdminRule, ArePermitted, Contact, Direction, Egress, End, HasPorts, HavePorts, Ingress, IsAdminPart, IsBasePart, IsNetOf, KeepsRules, Layer, NetPort, NetRule, Pairwise, PlacedNetRule, PodSide, PortSpot, RuleConns, SaysVerdicts, Six, Stranger, address, admin_places, admin_rule_matches, admin_says, base_places, base_says, destination_of, kept_matches, matches_of, near_pod, net_entry_matches, net_peer_matches, net_places, net_rule_matches, none_or_any, placed_net_matches, pod, rule_of, stranger_end, with_stranger}
+use Rattle.np_rules.specs.Prelude.{Address, AdminRule, ArePermitted, Contact, Direction, Egress, HasPorts, HavePorts, Ingress, IsAdminPart, IsBasePart, IsNetOf, KeepsRules, Layer, ModelEnd, NetPort, NetRule, Pairwise, PlacedNetRule, PodSide, PortSpot, RuleConns, SaysVerdicts, Six, Stranger, address, admin_places, admin_rule_matches, admin_says, base_places, base_says, destination_of, kept_matches, matches_of, near_pod, net_entry_matches, net_peer_matches, net_places, net_rule_matches, none_or_any, placed_net_matches, pod, rule_of, stranger_end, with_stranger}
 use Rattle.np_conns.specs.Prelude.{Conns, has_spot, is_spot}
 use Rattle.np_model.specs.declared.network_policy.NetPort.TheVariants as net
 use Rattle.np_rules.proofs.LayerLemmas.{admin_same, base_same, matches_in, matches_in_namespace, walk_by_tiers}
@@ -14,21 +14,21 @@ use Rattle.np_tiers.specs.Prelude.{admin_allows, base_allows}
 -- ---- the sets of the rules
 
 -- a stranger has no named ports, as an address has none
-entry_same : (direction : Direction) (near : End) (s : Stranger) (a : Address) (spot : PortSpot) (entry : NetPort) → net_entry_matches entry
+entry_same : (direction : Direction) (near : ModelEnd) (s : Stranger) (a : Address) (spot : PortSpot) (entry : NetPort) → net_entry_matches entry
     (destination_of direction near (address a)) spot ≡ net_entry_matches entry (destination_of direction near (pod (stranger_end s))) spot
 entry_same Ingress near s a spot entry = refl
 entry_same Egress near s a spot (net.Span proto lo hi) = refl
 entry_same Egress near s a spot (net.Named proto name) = refl
 
 -- what the entries of a rule match at some address they match at each stranger
-ports_same : (direction : Direction) (near : End) (s : Stranger) (a : Address) (spot : PortSpot) (entries : List NetPort) → none_or_any
+ports_same : (direction : Direction) (near : ModelEnd) (s : Stranger) (a : Address) (spot : PortSpot) (entries : List NetPort) → none_or_any
     (λ entry. net_entry_matches entry (destination_of direction near (address a)) spot) entries ≡ none_or_any
     (λ entry. net_entry_matches entry (destination_of direction near (pod (stranger_end s))) spot) entries
 ports_same direction near s a spot entries = none_or_any-same (λ entry. net_entry_matches entry (destination_of direction near (address a)) spot)
     (λ entry. net_entry_matches entry (destination_of direction near (pod (stranger_end s))) spot) (entry_same direction near s a spot) entries
 
 -- so a set of what the entries of a rule match at addresses is one of what they match at strangers
-pub has_ports : (direction : Direction) (near : End) (kept : RuleConns) →
+pub has_ports : (direction : Direction) (near : ModelEnd) (kept : RuleConns) →
     ((a : Address) (spot : PortSpot) → is_spot spot ≡ true → has_spot kept.conns spot ≡ none_or_any
     (λ entry. net_entry_matches entry (destination_of direction near (address a)) spot) (rule_of kept).ports) → HasPorts direction near kept
 has_ports direction near kept at_addresses = λ s spot within. at_addresses (Six 0) spot within ∙ ports_same direction near s (Six 0) spot (rule_of kept).ports

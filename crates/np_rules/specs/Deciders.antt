@@ -5,7 +5,7 @@ use Rattle.std.specs.Ordering.{nat_cmp, match_ordering}
 use Rattle.np_rules.specs.Types.{Action, Allow, Decider, Deny, Direction, EstateLists, NetPolicy, Pass, RuleName}
 use Rattle.np_rules.specs.model.AdminTier.{admin_decider, least_by}
 use Rattle.np_rules.specs.model.BaseTier.{base_decider}
-use Rattle.np_rules.specs.model.Ends.{End, Contact, PodEnd, pod, address}
+use Rattle.np_rules.specs.model.Ends.{ModelEnd, Contact, PodEnd, pod, address}
 use Rattle.np_rules.specs.model.NetTier.{isolates, is_isolated, placed_net_matches}
 use Rattle.np_rules.specs.model.Places.{PlacedAdminRule, PlacedBaseRule, PlacedNetRule, net_places}
 use Rattle.np_rules.specs.model.Sides.{is_allow}
@@ -69,7 +69,7 @@ admin_decides None lower = lower None
 admin_decides (Some placed) lower = action_decides placed.rule.action (admin_rule_name placed) lower
 
 -- what decides a packet at an end; at an address there is no side that could
-abbrev pub decider : EstateLists → Direction → End → Contact → Decider
+abbrev pub decider : EstateLists → Direction → ModelEnd → Contact → Decider
 decider lists direction (pod p) contact = admin_decides (admin_decider lists.admin_policies direction p contact) (lower_decider lists direction p contact)
 decider lists direction (address a) contact = NoSide
 

@@ -6,7 +6,7 @@ use Rattle.np_addr.specs.Prelude.{family_of}
 use Rattle.np_base.specs.Beside.{by_side}
 use Rattle.np_conns.specs.Prelude.{Conns, has_spot, is_spot}
 use Rattle.np_pieces.specs.Pieces as pieces
-use Rattle.np_rules.specs.model.Ends.{Contact, End, address, contact}
+use Rattle.np_rules.specs.model.Ends.{Contact, ModelEnd, address, contact}
 use Rattle.np_rules.specs.model.Peers.{admin_peer_matches, net_peer_matches}
 use Rattle.np_rules.specs.Views.{end_view}
 use Rattle.np_rules.specs.declared.every_address.EveryAddress.{EveryAddress}
@@ -33,7 +33,7 @@ abbrev pub has_address_spot : Beside (List (Piece ℕ Conns)) (List (Piece ℕ C
 has_address_spot set = by_side (pieces.has_spot (λ a. a) has_spot set.first) (pieces.has_spot (λ a. a) has_spot set.second)
 
 -- what the side of a near end looks at, where the address is the far end
-abbrev pub address_contact : Direction → End → AddressSpot → Contact
+abbrev pub address_contact : Direction → ModelEnd → AddressSpot → Contact
 address_contact direction near place = contact direction near (address (address_of place)) (family_of (address_of place)) (spot_of place)
 
 abbrev pub every_contact : EveryAddress → AddressSpot → Contact

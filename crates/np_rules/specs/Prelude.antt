@@ -15,7 +15,7 @@ pub use Rattle.np_rules.specs.Types.{Action, Address, AdminPart, AdminPeer, Admi
 pub use Rattle.np_rules.specs.Views.{contact_view, end_view, pod_view}
 pub use Rattle.np_rules.specs.model.AdminTier.{admin_candidates, admin_decider, admin_precedes, least_by, sooner}
 pub use Rattle.np_rules.specs.model.BaseTier.{base_decider}
-pub use Rattle.np_rules.specs.model.Ends.{Contact, End, Packet, PodEnd, address, contact, contact_of, destination_of, pod, pod_end, stranger_end}
+pub use Rattle.np_rules.specs.model.Ends.{Contact, ModelEnd, ModelPacket, PodEnd, address, contact, contact_of, destination_of, pod, pod_end, stranger_end}
 pub use Rattle.np_rules.specs.model.NetTier.{is_isolated, isolates, permits, placed_net_matches}
 pub use Rattle.np_rules.specs.model.Peers.{admin_peer_matches, net_peer_matches, pods_match}
 pub use Rattle.np_rules.specs.model.Places.{PlacedAdminRule, PlacedBaseRule, PlacedNetRule, admin_places, admin_places_of, admin_rules_of, base_places, base_rules_of, end_rule_count, net_places, net_places_of, net_rules_of, rule_count}

@@ -4,7 +4,7 @@ use Rattle.std.specs.Prelude.{◌≡◌, ℕ, List, Bool, true, ◌&&◌}
 use Rattle.std.specs.List.{AllByRecursion, list_any}
 use Rattle.np_conns.specs.Prelude.{Conns, has_spot, is_spot}
 use Rattle.np_rules.specs.Types.{Direction, NetRule, PortSpot, RuleConns, Stranger}
-use Rattle.np_rules.specs.model.Ends.{End, destination_of, pod, stranger_end}
+use Rattle.np_rules.specs.model.Ends.{ModelEnd, destination_of, pod, stranger_end}
 use Rattle.np_rules.specs.model.NetTier.{permits}
 use Rattle.np_rules.specs.model.Peers.{net_peer_matches}
 use Rattle.np_rules.specs.PodSides.{PodSide, near_pod, with_stranger}
@@ -15,7 +15,7 @@ abbrev pub rule_of : RuleConns → NetRule
 rule_of kept = kept.rule.now
 
 -- Whichever stranger is the far end, the set has exactly the spots that some port entry of the rule matches.
-abbrev pub HasPorts : Direction → End → RuleConns → Type 0
+abbrev pub HasPorts : Direction → ModelEnd → RuleConns → Type 0
 HasPorts direction near kept = (s : Stranger) (spot : PortSpot) → is_spot spot ≡ true →
     has_spot kept.conns spot ≡ none_or_any (λ entry. net_entry_matches entry (destination_of direction near (pod (stranger_end s))) spot) (rule_of kept).ports
 
@@ -24,11 +24,11 @@ abbrev pub HavePorts : PodSide → List RuleConns → Type 0
 HavePorts side kept = AllByRecursion (HasPorts side.direction (pod (near_pod side))) kept
 
 -- whether the peers of a rule of this namespace match the far end
-abbrev pub kept_reaches : List ℕ → End → RuleConns → Bool
+abbrev pub kept_reaches : List ℕ → ModelEnd → RuleConns → Bool
 kept_reaches namespace far kept = none_or_any (λ peer. net_peer_matches namespace peer far) (rule_of kept).peers
 
 -- whether such a rule matches the far end, and its set has the spot
-abbrev pub kept_matches : List ℕ → End → PortSpot → RuleConns → Bool
+abbrev pub kept_matches : List ℕ → ModelEnd → PortSpot → RuleConns → Bool
 kept_matches namespace far spot kept = kept_reaches namespace far kept && has_spot kept.conns spot
 
 -- ---- what NetworkPolicies permit a stranger

@@ -1,7 +1,7 @@
 //! Which pods of an estate a policy selects, and which ones a rule of it speaks of as far ends.
 ghost use Rattle.std.specs.Prelude.{◌≡◌, AllPairs};
 ghost use Rattle.std.specs.List.{list_any};
-ghost use Rattle.np_model.specs.Prelude.{StandsBefore};
+ghost use Rattle.np_model.specs.Prelude.{PolicyStandsBefore};
 ghost use Rattle.np_rules.specs.Prelude.{admin_peer_matches, is_isolated, net_peer_matches, none_or_any, pod, pod_end};
 ghost use Rattle.np_rules.specs.model.Selection as spec;
 
@@ -22,7 +22,7 @@ pub fn net_policy_selects(policy: &NetPolicy, pod: &Pod) -> bool
 
 /// Whether some NetworkPolicy isolates a pod. Those of the pod's namespace alone are looked at.
 pub fn isolates_pod(policies: &[NetPolicy], direction: Direction, pod: &Pod) -> bool
-    requires { AllPairs StandsBefore policies.now }
+    requires { AllPairs PolicyStandsBefore policies.now }
     ensures { result ≡ is_isolated policies.now direction (pod_end pod.now) }
 {
     let own = own_policies(policies, pod.namespace.as_str());

@@ -8,11 +8,11 @@ ghost use Rattle.np_model.specs.declared.admin_policy.AdminPolicy.{AdminPolicy};
 ghost use Rattle.np_model.specs.declared.direction.Direction.{Direction};
 ghost use Rattle.np_model.specs.declared.network_policy.NetPolicy.{NetPolicy};
 ghost use Rattle.np_model.specs.declared.network_policy.NetRule.{NetRule};
-ghost use Rattle.np_rules.specs.Prelude.{Contact, End, IsAmong, Packet, PlacedAdminRule, PodEnd, admin_candidates, admin_decider, admin_precedes, allows, decider, decider_allows, end_allows, has_networks, is_isolated, net_selects, permits, side_allows, subject_selects, with_net_policies, with_rule};
+ghost use Rattle.np_rules.specs.Prelude.{Contact, IsAmong, ModelEnd, ModelPacket, PlacedAdminRule, PodEnd, admin_candidates, admin_decider, admin_precedes, allows, decider, decider_allows, end_allows, has_networks, is_isolated, net_selects, permits, side_allows, subject_selects, with_net_policies, with_rule};
 
 /// What decides a packet at an end says what that end's side says.
 pub fn decider_gives_the_verdict()
-    ensures { (lists : EstateLists) (direction : Direction) (end : End) (contact : Contact) →
+    ensures { (lists : EstateLists) (direction : Direction) (end : ModelEnd) (contact : Contact) →
         decider_allows (decider lists direction end contact) ≡ end_allows lists direction end contact }
 {}
 
@@ -65,6 +65,6 @@ pub fn policies_add_up()
 
 /// The family of a packet changes nothing where no admin rule and no rule of the baseline lists networks.
 pub fn networks_alone_tell_families()
-    ensures { (lists : EstateLists) (packet : Packet) (family : Family) → has_networks lists ≡ false →
+    ensures { (lists : EstateLists) (packet : ModelPacket) (family : Family) → has_networks lists ≡ false →
         allows lists (record packet { family = family }) ≡ allows lists packet }
 {}

@@ -2,7 +2,7 @@
 ghost use Rattle.std.specs.Prelude.{◌≡◌, ◌+◌, ◌<◌, ℕ, filter, length, AllPairs};
 ghost use Rattle.std.specs.List.{slice_get};
 ghost use Rattle.std.specs.Str.{bytes_eq};
-ghost use Rattle.np_model.specs.Prelude.{StandsBefore};
+ghost use Rattle.np_model.specs.Prelude.{PolicyStandsBefore};
 
 use np_model::NetPolicy;
 
@@ -15,7 +15,7 @@ pub(crate) struct OwnPolicies<'a> {
 
 /// The policies of a namespace, in order. They stand together, and are found by halves.
 pub(crate) fn own_policies<'a>(policies: &'a [NetPolicy], namespace: &str) -> OwnPolicies<'a>
-    requires { AllPairs StandsBefore policies.now }
+    requires { AllPairs PolicyStandsBefore policies.now }
     ensures own { result.policies.now ≡ filter (λ policy. bytes_eq policy.namespace namespace.now) policies.now }
     ensures first { (among : ℕ) → among < length result.policies.now →
         slice_get policies.now (result.first + among) ≡ slice_get result.policies.now among }

@@ -2,7 +2,7 @@
 ghost use Rattle.std.specs.Prelude.{◌≡◌, ◌&&◌, [], not, unwrap_or};
 ghost use Rattle.std.specs.Option.{option_copied};
 ghost use Rattle.std.specs.List.{list_any};
-ghost use Rattle.np_addr.specs.Prelude.{block_has, cidr_has, some_has};
+ghost use Rattle.np_addr.specs.Prelude.{block_has, cidr_has, some_block_has};
 ghost use Rattle.np_model.specs.Prelude.{is_of};
 ghost use Rattle.np_rules.specs.Prelude.{end_view, is_block_of, none_or_any, pod_view, some_inside};
 ghost use Rattle.np_rules.specs.model.Peers as spec;
@@ -69,7 +69,7 @@ fn block_has(cidr: &Cidr, excepts: &[Cidr], address: &Address) -> bool
 
 // Whether an address is in some of the blocks.
 fn in_some(cidrs: &[Cidr], address: &Address) -> bool
-    ensures { result ≡ some_has cidrs.now address.now }
+    ensures { result ≡ some_block_has cidrs.now address.now }
 {
     cidrs.iter().any(|cidr| cidr_has(cidr, *address))
 }
@@ -100,7 +100,7 @@ fn admin_peer_matches(peer: &AdminPeer, far: &EndView<'_>, family: Family) -> bo
 
 // Whether some of the addresses is of the family and in some of the blocks. Without a list there is none.
 fn some_address_in(cidrs: &[Cidr], addresses: Option<&Addresses>, family: Family) -> bool
-    ensures { result ≡ list_any (λ a. is_of family a && some_has cidrs.now a) (unwrap_or (option_copied addresses.entry) []) }
+    ensures { result ≡ list_any (λ a. is_of family a && some_block_has cidrs.now a) (unwrap_or (option_copied addresses.entry) []) }
 {
     match addresses {
         Some(addresses) => some_inside(cidrs, addresses, family),

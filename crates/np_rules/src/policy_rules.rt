@@ -1,6 +1,6 @@
 //! The policies that speak of a pod.
 ghost use Rattle.std.specs.Prelude.{◌≡◌, ◌++◌, map, flat_map, AllPairs, IfOk, OnOk};
-ghost use Rattle.np_model.specs.Prelude.{StandsBefore};
+ghost use Rattle.np_model.specs.Prelude.{PolicyStandsBefore};
 ghost use Rattle.np_rules.specs.PolicyRules.{AreIsolating, AreSelecting};
 ghost use Rattle.np_rules.specs.Views.{pod_view};
 
@@ -46,7 +46,7 @@ pub(crate) fn isolating_policies<'a>(
     direction: Direction,
     pod: &PodView<'_>,
 ) -> Result<Vec<PolicyRules<'a, NetRule>>, NoMemory>
-    requires { AllPairs StandsBefore policies.now }
+    requires { AllPairs PolicyStandsBefore policies.now }
     ensures { IfOk result (λ made. AreIsolating policies.now direction (pod_view pod.now) made.items) }
 {
     let own = own_policies(policies, pod.namespace);

@@ -4,7 +4,7 @@ ghost use Rattle.std.specs.List.{list_any};
 ghost use Rattle.np_conns.specs.Prelude.{has_spot, is_spot, same_proto};
 ghost use Rattle.np_conns.specs.declared.port_spot.PortSpot.{PortSpot};
 ghost use Rattle.np_addr.specs.declared.address.Address.{Address};
-ghost use Rattle.np_rules.specs.model.Ends.{End, address};
+ghost use Rattle.np_rules.specs.model.Ends.{ModelEnd, address};
 ghost use Rattle.np_rules.specs.model.PortEntries as spec;
 ghost use Rattle.np_rules.specs.model.Rules.{none_or_any};
 ghost use Rattle.np_rules.specs.Views.{end_view};
@@ -18,7 +18,7 @@ use std::alloc::Global;
 /// A port entry of a rule.
 pub(crate) trait PortEntry {
     /// Whether it matches, for a packet to a destination.
-    ghost matches: { Self → End → PortSpot → Bool };
+    ghost matches: { Self → ModelEnd → PortSpot → Bool };
 
     /// The spots that it matches.
     fn spots(&self, alloc: Global, destination: &EndView<'_>) -> Result<ConnSet, NoMemory>

@@ -16,23 +16,23 @@ api_object version kind metadata spec = object_with (
 abbrev pub namespace_count : ℕ
 namespace_count = 5
 
-abbrev pub namespace_name : ℕ → List ℕ
-namespace_name j = codes "s" ++ decimal j
+abbrev pub sample_namespace_name : ℕ → List ℕ
+sample_namespace_name j = codes "s" ++ decimal j
 
 abbrev pub pod_name : ℕ → List ℕ
 pod_name i = codes "p" ++ decimal i
 
 -- the namespace of a pod
 abbrev pub namespace_of : ℕ → List ℕ
-namespace_of i = namespace_name (i % 5)
+namespace_of i = sample_namespace_name (i % 5)
 
 -- the label `app` of a pod
 abbrev pub app_of : ℕ → List ℕ
 app_of i = codes "a" ++ decimal (i % 7)
 
 -- the number of the port `http` of a pod
-abbrev pub port_of : ℕ → ℕ
-port_of i = 8000 + i % 3
+abbrev pub sample_port : ℕ → ℕ
+sample_port i = 8000 + i % 3
 
 -- the namespace from which the policy of a namespace lets connections in: the next one, and behind the last the first
 abbrev pub next_of : ℕ → ℕ
@@ -44,28 +44,28 @@ block_text j = codes "10." ++ decimal j ++ codes ".0.0/16"
 
 -- ---- namespaces
 
-abbrev pub namespace : ℕ → Data
-namespace j = object_with (
+abbrev pub sample_namespace : ℕ → Data
+sample_namespace j = object_with (
     (codes "apiVersion", string (codes "v1")) ∷ (codes "kind", string (codes "Namespace"))
-    ∷ (codes "metadata", object_with ((codes "name", string (namespace_name j)) ∷ [])) ∷ [])
+    ∷ (codes "metadata", object_with ((codes "name", string (sample_namespace_name j)) ∷ [])) ∷ [])
 
 -- ---- pods
 
-abbrev pub pod_metadata : ℕ → Data
-pod_metadata i = object_with (
+abbrev pub sample_pod_metadata : ℕ → Data
+sample_pod_metadata i = object_with (
     (codes "labels", object_with ((codes "app", string (app_of i)) ∷ []))
     ∷ (codes "name", string (pod_name i)) ∷ (codes "namespace", string (namespace_of i)) ∷ [])
 
-abbrev pub named_port : ℕ → Data
-named_port port = object_with (
+abbrev pub sample_named_port : ℕ → Data
+sample_named_port port = object_with (
     (codes "containerPort", number (unsigned port)) ∷ (codes "name", string (codes "http")) ∷ (codes "protocol", string (codes "TCP")) ∷ [])
 
 -- one container with one port
-abbrev pub pod_spec : ℕ → Data
-pod_spec port = object_with ((codes "containers", list_with (object_with ((codes "ports", list_with (named_port port ∷ [])) ∷ []) ∷ [])) ∷ [])
+abbrev pub sample_pod_spec : ℕ → Data
+sample_pod_spec port = object_with ((codes "containers", list_with (object_with ((codes "ports", list_with (sample_named_port port ∷ [])) ∷ []) ∷ [])) ∷ [])
 
-abbrev pub pod : ℕ → Data
-pod i = api_object (codes "v1") (codes "Pod") (pod_metadata i) (pod_spec (port_of i))
+abbrev pub sample_pod : ℕ → Data
+sample_pod i = api_object (codes "v1") (codes "Pod") (sample_pod_metadata i) (sample_pod_spec (sample_port i))
 
 -- ---- NetworkPolicies
 
@@ -75,52 +75,52 @@ with_label key value = object_with ((codes "matchLabels", object_with ((key, str
 
 -- the pods of a namespace
 abbrev pub namespace_peer : ℕ → Data
-namespace_peer k = object_with ((codes "namespaceSelector", with_label (codes "kubernetes.io/metadata.name") (namespace_name k)) ∷ [])
+namespace_peer k = object_with ((codes "namespaceSelector", with_label (codes "kubernetes.io/metadata.name") (sample_namespace_name k)) ∷ [])
 
 -- the addresses of a block
 abbrev pub block_peer : ℕ → Data
 block_peer j = object_with ((codes "ipBlock", object_with ((codes "cidr", string (block_text j)) ∷ [])) ∷ [])
 
 -- a rule of one peer and one port of TCP
-abbrev pub net_rule : Data → Data → Data
-net_rule peer port = object_with (
+abbrev pub sample_net_rule : Data → Data → Data
+sample_net_rule peer port = object_with (
     (codes "from", list_with (peer ∷ []))
     ∷ (codes "ports", list_with (object_with ((codes "port", port) ∷ (codes "protocol", string (codes "TCP")) ∷ []) ∷ [])) ∷ [])
 
 -- from a namespace to the port `http`
 abbrev pub from_namespace : ℕ → Data
-from_namespace k = net_rule (namespace_peer k) (string (codes "http"))
+from_namespace k = sample_net_rule (namespace_peer k) (string (codes "http"))
 
 -- from a block to the port 443
 abbrev pub from_block : ℕ → Data
-from_block j = net_rule (block_peer j) (number (unsigned 443))
+from_block j = sample_net_rule (block_peer j) (number (unsigned 443))
 
 -- it selects all pods of its namespace
-abbrev pub net_spec : ℕ → Data
-net_spec j = object_with (
+abbrev pub sample_net_spec : ℕ → Data
+sample_net_spec j = object_with (
     (codes "ingress", list_with (from_namespace (next_of j) ∷ from_block j ∷ [])) ∷ (codes "podSelector", object_with [])
     ∷ (codes "policyTypes", list_with (string (codes "Ingress") ∷ [])) ∷ [])
 
 abbrev pub net_metadata : ℕ → Data
-net_metadata j = object_with ((codes "name", string (codes "next")) ∷ (codes "namespace", string (namespace_name j)) ∷ [])
+net_metadata j = object_with ((codes "name", string (codes "next")) ∷ (codes "namespace", string (sample_namespace_name j)) ∷ [])
 
-abbrev pub net_policy : ℕ → Data
-net_policy j = api_object (codes "networking.k8s.io/v1") (codes "NetworkPolicy") (net_metadata j) (net_spec j)
+abbrev pub sample_net_policy : ℕ → Data
+sample_net_policy j = api_object (codes "networking.k8s.io/v1") (codes "NetworkPolicy") (net_metadata j) (sample_net_spec j)
 
 -- ---- the AdminNetworkPolicy
 
 -- the pods of all namespaces whose label `app` is `a6`
-abbrev pub admin_peer : Data
-admin_peer = object_with (
+abbrev pub sample_admin_peer : Data
+sample_admin_peer = object_with (
     (codes "pods", object_with ((codes "namespaceSelector", object_with []) ∷ (codes "podSelector", with_label (codes "app") (codes "a6")) ∷ [])) ∷ [])
 
-abbrev pub admin_rule : Data
-admin_rule = object_with ((codes "action", string (codes "Deny")) ∷ (codes "from", list_with (admin_peer ∷ [])) ∷ [])
+abbrev pub sample_admin_rule : Data
+sample_admin_rule = object_with ((codes "action", string (codes "Deny")) ∷ (codes "from", list_with (sample_admin_peer ∷ [])) ∷ [])
 
-abbrev pub admin_spec : Data
-admin_spec = object_with (
-    (codes "ingress", list_with (admin_rule ∷ [])) ∷ (codes "priority", number (unsigned 10))
+abbrev pub sample_admin_spec : Data
+sample_admin_spec = object_with (
+    (codes "ingress", list_with (sample_admin_rule ∷ [])) ∷ (codes "priority", number (unsigned 10))
     ∷ (codes "subject", object_with ((codes "namespaces", object_with []) ∷ [])) ∷ [])
 
-abbrev pub admin_policy : Data
-admin_policy = api_object (codes "policy.networking.k8s.io/v1alpha1") (codes "AdminNetworkPolicy") (object_with ((codes "name", string (codes "stop")) ∷ [])) admin_spec
+abbrev pub sample_admin_policy : Data
+sample_admin_policy = api_object (codes "policy.networking.k8s.io/v1alpha1") (codes "AdminNetworkPolicy") (object_with ((codes "name", string (codes "stop")) ∷ [])) sample_admin_spec

@@ -8,7 +8,7 @@ use std::alloc::{AllocError, Global};
 
 // The policy that stops connections from pods with one value of the label `app`.
 pub(crate) fn admin_policy(alloc: Global) -> Result<Value, AllocError>
-    ensures { IfOk result (λ value. view value ≡ spec.admin_policy) }
+    ensures { IfOk result (λ value. view value ≡ spec.sample_admin_policy) }
 {
     let spec = admin_spec(alloc)?;
     json!(in alloc; {
@@ -21,14 +21,14 @@ pub(crate) fn admin_policy(alloc: Global) -> Result<Value, AllocError>
 
 // Its one rule, for all pods.
 fn admin_spec(alloc: Global) -> Result<Value, AllocError>
-    ensures { IfOk result (λ value. view value ≡ spec.admin_spec) }
+    ensures { IfOk result (λ value. view value ≡ spec.sample_admin_spec) }
 {
     let rule = admin_rule(alloc)?;
     json!(in alloc; {"ingress": [rule], "priority": 10u32, "subject": {"namespaces": {}}})
 }
 
 fn admin_rule(alloc: Global) -> Result<Value, AllocError>
-    ensures { IfOk result (λ value. view value ≡ spec.admin_rule) }
+    ensures { IfOk result (λ value. view value ≡ spec.sample_admin_rule) }
 {
     let pods =
         json!(in alloc; {"namespaceSelector": {}, "podSelector": {"matchLabels": {"app": "a6"}}})?;

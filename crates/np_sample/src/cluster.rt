@@ -48,7 +48,7 @@ fn objects(alloc: Global, n: u32) -> Result<Vec<Value>, AllocError>
 
 fn add_namespaces(alloc: Global, values: &mut Vec<Value>) -> Result<(), AllocError>
     ensures { OnOk result (map view values.new.items
-        ≡ map view values.old.items ++ map spec.namespace (range_with_len 0 NAMESPACES)) }
+        ≡ map view values.old.items ++ map spec.sample_namespace (range_with_len 0 NAMESPACES)) }
 {
     for number in 0..NAMESPACES {
         values.push(namespace(alloc, number)?)?;
@@ -58,7 +58,7 @@ fn add_namespaces(alloc: Global, values: &mut Vec<Value>) -> Result<(), AllocErr
 
 fn add_pods(alloc: Global, n: u32, values: &mut Vec<Value>) -> Result<(), AllocError>
     ensures { OnOk result (map view values.new.items
-        ≡ map view values.old.items ++ map spec.pod (range_with_len 0 n)) }
+        ≡ map view values.old.items ++ map spec.sample_pod (range_with_len 0 n)) }
 {
     for number in 0..n {
         values.push(pod(alloc, number)?)?;
@@ -68,7 +68,7 @@ fn add_pods(alloc: Global, n: u32, values: &mut Vec<Value>) -> Result<(), AllocE
 
 fn add_net_policies(alloc: Global, values: &mut Vec<Value>) -> Result<(), AllocError>
     ensures { OnOk result (map view values.new.items
-        ≡ map view values.old.items ++ map spec.net_policy (range_with_len 0 NAMESPACES)) }
+        ≡ map view values.old.items ++ map spec.sample_net_policy (range_with_len 0 NAMESPACES)) }
 {
     for number in 0..NAMESPACES {
         values.push(net_policy(alloc, number)?)?;

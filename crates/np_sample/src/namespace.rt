@@ -9,7 +9,7 @@ use std::alloc::{AllocError, Global};
 
 // The namespace of a number.
 pub(crate) fn namespace(alloc: Global, number: u32) -> Result<Value, AllocError>
-    ensures { IfOk result (λ value. view value ≡ spec.namespace number) }
+    ensures { IfOk result (λ value. view value ≡ spec.sample_namespace number) }
 {
     let name = numbered(alloc, "s", number)?;
     json!(in alloc; {"apiVersion": "v1", "kind": "Namespace", "metadata": {"name": name}})

@@ -10,7 +10,7 @@ use std::alloc::{AllocError, Global};
 // The policy of the namespace of a number: connections come in from the next namespace, and from a block of addresses.
 pub(crate) fn net_policy(alloc: Global, number: u32) -> Result<Value, AllocError>
     requires { number < NAMESPACES }
-    ensures { IfOk result (λ value. view value ≡ spec.net_policy number) }
+    ensures { IfOk result (λ value. view value ≡ spec.sample_net_policy number) }
 {
     let metadata = metadata(alloc, number)?;
     let spec = net_spec(alloc, number)?;
@@ -30,7 +30,7 @@ fn metadata(alloc: Global, number: u32) -> Result<Value, AllocError>
 // What it lets in to the pods of its namespace.
 fn net_spec(alloc: Global, number: u32) -> Result<Value, AllocError>
     requires { number < NAMESPACES }
-    ensures { IfOk result (λ value. view value ≡ spec.net_spec number) }
+    ensures { IfOk result (λ value. view value ≡ spec.sample_net_spec number) }
 {
     let next = from_namespace(alloc, (number + 1) % NAMESPACES)?;
     let block = from_block(alloc, number)?;
@@ -65,7 +65,7 @@ fn block_text(alloc: Global, number: u32) -> Result<String, AllocError>
 
 // A rule of one peer and one port of TCP.
 fn net_rule(alloc: Global, peer: Value, port: Value) -> Result<Value, AllocError>
-    ensures { IfOk result (λ value. view value ≡ spec.net_rule (view peer) (view port)) }
+    ensures { IfOk result (λ value. view value ≡ spec.sample_net_rule (view peer) (view port)) }
 {
     json!(in alloc; {"from": [peer], "ports": [{"port": port, "protocol": "TCP"}]})
 }

@@ -14,7 +14,7 @@ const PORTS: u32 = 3;
 
 // The pod of a number. It has one port with a name, and no address.
 pub(crate) fn pod(alloc: Global, number: u32) -> Result<Value, AllocError>
-    ensures { IfOk result (λ value. view value ≡ spec.pod number) }
+    ensures { IfOk result (λ value. view value ≡ spec.sample_pod number) }
 {
     let metadata = metadata(alloc, number)?;
     let spec = pod_spec(alloc, 8000 + number % PORTS)?;
@@ -23,7 +23,7 @@ pub(crate) fn pod(alloc: Global, number: u32) -> Result<Value, AllocError>
 
 // Its name, its namespace and its label.
 fn metadata(alloc: Global, number: u32) -> Result<Value, AllocError>
-    ensures { IfOk result (λ value. view value ≡ spec.pod_metadata number) }
+    ensures { IfOk result (λ value. view value ≡ spec.sample_pod_metadata number) }
 {
     let app = numbered(alloc, "a", number % APPS)?;
     let name = numbered(alloc, "p", number)?;
@@ -33,7 +33,7 @@ fn metadata(alloc: Global, number: u32) -> Result<Value, AllocError>
 
 // One container with one port.
 fn pod_spec(alloc: Global, port: u32) -> Result<Value, AllocError>
-    ensures { IfOk result (λ value. view value ≡ spec.pod_spec port) }
+    ensures { IfOk result (λ value. view value ≡ spec.sample_pod_spec port) }
 {
     let port = json!(in alloc; {"containerPort": port, "name": "http", "protocol": "TCP"})?;
     json!(in alloc; {"containers": [{"ports": [port]}]})

@@ -4,7 +4,7 @@ use Rattle.std.proofs.lemmas.Bool.{and_from, le-leb, lt-ltb, or_left}
 use Rattle.std.proofs.lemmas.Bool.Decides.{nat_tests}
 use Rattle.std.proofs.lemmas.Nat.{pow_pos}
 use Rattle.np_addr.specs.Prelude.{AddressRanges, IsAddress, IsAddressSet, cidr_has, set_has}
-use Rattle.np_statements.specs.Prelude.{Address, Cidr, addresses_in, every_address, no_address}
+use Rattle.np_statements.specs.Prelude.{Address, Cidr, block_addresses, every_address, no_address}
 use Rattle.np_addr.specs.declared.address.Address.TheVariants as address
 use Rattle.np_addr.specs.declared.cidr.Cidr.TheVariants as cidr
 use Rattle.np_base.proofs.Ranges.{same_members_same_ranges}
@@ -41,7 +41,7 @@ is-every_address made well all =
 to_last : (base size n : ℕ) → 0 < size → ((nat_le base n && nat_le n (base + size - 1)) || false) ≡ (nat_le base n && nat_lt n (base + size))
 to_last base size n some = grind (arith, nat_tests)
 
-pub has-addresses_in : (block : Cidr) (a : Address) → set_has (addresses_in block) a ≡ cidr_has block a
+pub has-addresses_in : (block : Cidr) (a : Address) → set_has (block_addresses block) a ≡ cidr_has block a
 has-addresses_in (cidr.Four base len) (address.Four n) = to_last base (2 ^ (32 - len)) n (pow_pos (32 - len))
 has-addresses_in (cidr.Six base len) (address.Six n) = to_last base (2 ^ (128 - len)) n (pow_pos (128 - len))
 has-addresses_in (cidr.Four base len) (address.Six n) = refl
@@ -51,7 +51,7 @@ has-addresses_in (cidr.Six base len) (address.Four n) = refl
 has_last : (base size : ℕ) → 0 < size → (nat_le base (base + size - 1) && nat_lt (base + size - 1) (base + size)) ≡ true
 has_last base size some = and_from _ _ (le-leb base (base + size - 1) (omega arith)) (lt-ltb (base + size - 1) (base + size) (omega arith))
 
-well-addresses_in : (block : Cidr) (made : AddressRanges) → IsAddressSet made → ((a : Address) → set_has made a ≡ cidr_has block a) → IsAddressSet (addresses_in block)
+well-addresses_in : (block : Cidr) (made : AddressRanges) → IsAddressSet made → ((a : Address) → set_has made a ≡ cidr_has block a) → IsAddressSet (block_addresses block)
 well-addresses_in (cidr.Four base len) made well members =
     let some = pow_pos (32 - len) in
     let last = holds-last (λ a. a) 0 (2 ^ 32 - 1) made.first (base + 2 ^ (32 - len) - 1) well.0 (members (address.Four (base + 2 ^ (32 - len) - 1)) ∙ has_last base (2 ^ (32 - len)) some) in
@@ -61,6 +61,6 @@ well-addresses_in (cidr.Six base len) made well members =
     let last = holds-last (λ a. a) 0 (2 ^ 128 - 1) made.second (base + 2 ^ (128 - len) - 1) well.1 (members (address.Six (base + 2 ^ (128 - len) - 1)) ∙ has_last base (2 ^ (128 - len)) some) in
     (tt, (omega arith, omega arith, last, tt))
 
-pub is-addresses_in : (block : Cidr) (made : AddressRanges) → IsAddressSet made → ((a : Address) → set_has made a ≡ cidr_has block a) → made ≡ addresses_in block
+pub is-addresses_in : (block : Cidr) (made : AddressRanges) → IsAddressSet made → ((a : Address) → set_has made a ≡ cidr_has block a) → made ≡ block_addresses block
 is-addresses_in block made well members =
-    same_set made (addresses_in block) well (well-addresses_in block made well members) (λ a is. members a ∙ sym (has-addresses_in block a))
+    same_set made (block_addresses block) well (well-addresses_in block made well members) (λ a is. members a ∙ sym (has-addresses_in block a))

@@ -5,7 +5,7 @@ use Rattle.std.proofs.lemmas.Bool.{and_from, and_parts, cases_Bool, or_left, or_
 use Rattle.std.proofs.lemmas.List.Elements.{All-cons, All-nil}
 use Rattle.np_check.proofs.LeastLemmas.{first_broken, nothing_broken}
 use Rattle.np_check.specs.Prelude.{IsBroken, allows_between, complies, counterexample_of}
-use Rattle.np_statements.specs.Prelude.{Addresses, Allow, AreSettled, AskedLine, Block, CheckedKinds, Counterexample, Deny, EndForm, EstateLists, HoldsOfPods, IsQuestion, Namespace, Pods, PortSpot, Question, StatementLine, Wanted, Work, all_works, asked_of, asks_at, asks_pods, broken_by, broken_of, ends_of, is_any_pod, is_same, is_settled, question_of_pods, works_alone}
+use Rattle.np_statements.specs.Prelude.{Addresses, Allow, AreSettled, AskedLine, Block, CheckedKinds, Counterexample, Deny, EndForm, EstateLists, HoldsOfPods, IsQuestion, Namespace, Pods, PortSpot, Question, StatementLine, Wanted, Work, all_works, asked_line, asks_at, asks_pods, broken_by, broken_of, ends_of, is_any_pod, is_same, is_settled, question_of_pods, works_alone}
 use Rattle.np_conns.specs.Prelude.{Conns, has_spot}
 use Rattle.np_statements.proofs.AmongLemmas.{IsLeft, one_left}
 use Rattle.np_statements.proofs.EndLemmas.{AreEnds, ends_of-are}
@@ -39,8 +39,8 @@ any_pod-is (Block cidr) any = cc
 asked_by_pods : EstateLists → StatementLine → AskedLine
 asked_by_pods lists line = record { line = line.line; question = question_of_pods lists line.statement.wanted line.statement.conns }
 
-asks-pods : (lists : EstateLists) (line : StatementLine) → line.statement.source ≡ Pods → line.statement.destination ≡ Pods → asked_of lists line ≡ Ok (asked_by_pods lists line)
-unfolding asked_of ends_of asked_by_pods
+asks-pods : (lists : EstateLists) (line : StatementLine) → line.statement.source ≡ Pods → line.statement.destination ≡ Pods → asked_line lists line ≡ Ok (asked_by_pods lists line)
+unfolding asked_line ends_of asked_by_pods
 asks-pods lists line source destination = rw (source, destination) refl
 
 -- ---- where all of them hold

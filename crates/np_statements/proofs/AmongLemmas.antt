@@ -4,8 +4,8 @@ use Rattle.std.specs.Option.{option_or}
 use Rattle.std.specs.Prelude.{IsOk}
 use Rattle.std.proofs.lemmas.Bool.{false≢true, true≢false}
 use Rattle.std.proofs.lemmas.List.{at_drop_more, drop_all}
-use Rattle.np_check.specs.Prelude.{first_of}
-use Rattle.np_statements.specs.Prelude.{AskedLine, Broken, EndFault, EstateLists, GivesEnds, IsAsked, IsWellLine, StatementLine, asked_of, broken_among, broken_of, ends_found, first_broken, ◌>>=◌}
+use Rattle.np_check.specs.Prelude.{first_given}
+use Rattle.np_statements.specs.Prelude.{AskedLine, Broken, EndFault, EstateLists, GivesEnds, IsAsked, IsWellLine, StatementLine, asked_line, broken_among, broken_of, ends_found, first_broken, ◌>>=◌}
 use Rattle.np_statements.proofs.FoundLemmas.{asked-by, asked-known, found-behind, length-found}
 use Rattle.np_statements.proofs.StepLemmas.{same_ok, then-ok}
 use Rattle.np_statements.specs.declared.end_fault.EndFault.TheVariants.{NoMemory, UnknownEnd}
@@ -14,20 +14,20 @@ use Rattle.np_statements.specs.declared.end_fault.EndFault.TheVariants.{NoMemory
 
 -- the first of all broken lines, by what is found of the first line and what is asked by the others
 first_by : EstateLists → Result AskedLine (List ℕ) → Result (List AskedLine) (List ℕ) → Result (Option Broken) (List ℕ)
-first_by lists one rest = (one >>= (λ first. rest >>= (λ others. Ok (first ∷ others)))) >>= (λ asked. Ok (first_of (broken_of lists) asked))
+first_by lists one rest = (one >>= (λ first. rest >>= (λ others. Ok (first ∷ others)))) >>= (λ asked. Ok (first_given (broken_of lists) asked))
 
 -- what is found of lines from one on is found by that line
 among_at : (lists : EstateLists) (lines : List StatementLine) (i : ℕ) (line : StatementLine) → (i < length lines) × (line ≡ get_or lines i line) →
-    broken_among lists (drop i lines) ≡ first_by lists (asked_of lists line) (ends_found lists (drop (i + 1) lines))
+    broken_among lists (drop i lines) ≡ first_by lists (asked_line lists line) (ends_found lists (drop (i + 1) lines))
 unfolding broken_among first_broken first_by
 among_at lists lines i line (within, is) =
     at_drop_more (broken_among lists) lines i line within
-    ∙ ap (λ (one : StatementLine). first_by lists (asked_of lists one) (ends_found lists (drop (i + 1) lines))) (sym is)
+    ∙ ap (λ (one : StatementLine). first_by lists (asked_line lists one) (ends_found lists (drop (i + 1) lines))) (sym is)
 
 behind_unbroken : (lists : EstateLists) (one : AskedLine) (rest : Result (List AskedLine) (List ℕ)) → None ≡ broken_of lists one →
-    first_by lists (Ok one) rest ≡ (rest >>= (λ asked. Ok (first_of (broken_of lists) asked)))
+    first_by lists (Ok one) rest ≡ (rest >>= (λ asked. Ok (first_given (broken_of lists) asked)))
 unfolding first_by
-behind_unbroken lists one (Ok others) none = ap (λ (first : Option Broken). Ok (option_or first (first_of (broken_of lists) others))) (sym none)
+behind_unbroken lists one (Ok others) none = ap (λ (first : Option Broken). Ok (option_or first (first_given (broken_of lists) others))) (sym none)
 behind_unbroken lists one (Err name) none = refl
 
 is_none : {X : Type 0} (found : Option X) → is_some found ≡ false → found ≡ None
@@ -46,7 +46,7 @@ IsLeft lists lines i = broken_among lists (drop i lines) ≡ broken_among lists 
 
 -- a line that holds is left out
 pub one_left : (lists : EstateLists) (lines : List StatementLine) (i next : ℕ) (line : StatementLine) (asked : AskedLine) (found : Option Broken) → (i < length lines) × (line ≡ get_or lines i line) →
-    IsLeft lists lines i → asked_of lists line ≡ Ok asked → found ≡ broken_of lists asked → is_some found ≡ false → next ≡ i + 1 → IsLeft lists lines next
+    IsLeft lists lines i → asked_line lists line ≡ Ok asked → found ≡ broken_of lists asked → is_some found ≡ false → next ≡ i + 1 → IsLeft lists lines next
 unfolding broken_among first_broken
 one_left lists lines i next line asked found turn left asks is none later =
     ap (λ (k : ℕ). broken_among lists (drop k lines)) later
@@ -57,15 +57,15 @@ one_left lists lines i next line asked found turn left asks is none later =
 
 -- the first that does not hold is found, where all ends are
 pub one_broken : (lists : EstateLists) (lines : List StatementLine) (i : ℕ) (line : StatementLine) (asked : AskedLine) (found : Option Broken) → (i < length lines) × (line ≡ get_or lines i line) →
-    IsLeft lists lines i → IsOk (ends_found lists lines) → asked_of lists line ≡ Ok asked → found ≡ broken_of lists asked → is_some found ≡ true → broken_among lists lines ≡ Ok found
+    IsLeft lists lines i → IsOk (ends_found lists lines) → asked_line lists line ≡ Ok asked → found ≡ broken_of lists asked → is_some found ≡ true → broken_among lists lines ≡ Ok found
 unfolding first_by
 one_broken lists lines i line asked found turn left known asks is some =
     let others = found-behind lists lines (i + 1) known in
     sym left ∙ among_at lists lines i line turn
     ∙ ap (λ (one : Result AskedLine (List ℕ)). first_by lists one (ends_found lists (drop (i + 1) lines))) asks
     ∙ ap (first_by lists (Ok asked)) others.1
-    ∙ ap (λ (first : Option Broken). Ok (option_or first (first_of (broken_of lists) others.0))) (sym is)
-    ∙ ap Ok (is_first found (first_of (broken_of lists) others.0) some)
+    ∙ ap (λ (first : Option Broken). Ok (option_or first (first_given (broken_of lists) others.0))) (sym is)
+    ∙ ap Ok (is_first found (first_given (broken_of lists) others.0) some)
 
 -- a name that no workload has
 pub name_unknown : (lists : EstateLists) (lines : List StatementLine) (name : List ℕ) → ends_found lists lines ≡ Err name → broken_among lists lines ≡ Err name
@@ -73,7 +73,7 @@ unfolding broken_among
 name_unknown lists lines name unknown = ap (λ (found : Result (List AskedLine) (List ℕ)). found >>= (λ asked. Ok (first_broken lists asked))) unknown
 
 pub line_unknown : (lists : EstateLists) (lines : List StatementLine) (i : ℕ) (line : StatementLine) (fault : EndFault) → (i < length lines) × (line ≡ get_or lines i line) → IsLeft lists lines i →
-    GivesEnds {X = AskedLine} (Err fault) (asked_of lists line) → GivesEnds {X = Option Broken} (Err fault) (broken_among lists lines)
+    GivesEnds {X = AskedLine} (Err fault) (asked_line lists line) → GivesEnds {X = Option Broken} (Err fault) (broken_among lists lines)
 unfolding first_by
 line_unknown lists lines i line (UnknownEnd name) turn left unknown =
     sym left ∙ among_at lists lines i line turn
@@ -86,7 +86,7 @@ unfolding broken_among first_broken
 none_broken lists lines i behind left = sym left ∙ ap (broken_among lists) (drop_all i lines behind)
 
 -- what a line asks is known
-pub known-line : (lists : EstateLists) (line : StatementLine) (asked : AskedLine) → IsWellLine line → asked_of lists line ≡ Ok asked → IsAsked lists asked
+pub known-line : (lists : EstateLists) (line : StatementLine) (asked : AskedLine) → IsWellLine line → asked_line lists line ≡ Ok asked → IsAsked lists asked
 known-line lists line asked well asks = asked-known lists line asked well (asked-by lists line asked asks)
 
 -- ---- by what all lines ask

@@ -8,8 +8,8 @@ use Rattle.np_check.proofs.FirstLemmas.{none_each}
 use Rattle.np_check.proofs.HoldLemmas.{found_none, holds}
 use Rattle.np_check.proofs.LeastLemmas.{first_broken as first_packet}
 use Rattle.np_check.proofs.NoneLemmas.{none_all, none_map}
-use Rattle.np_check.specs.Prelude.{Holds, IsEndOf, IsOf, complies, counterexample_of, first_of}
-use Rattle.np_statements.specs.Prelude.{Allow, AskedLine, At, Broken, Counterexample, Deny, Ends, EstateLists, IsAsked, IsFirstBrokenLine, IsNamedPod, IsPlace, IsQuestion, IsWellLine, LineHolds, PlaceEnd, Question, StatementLine, Wanted, asked_of, broken_by, broken_of, ends_found, first_broken, is_allowed}
+use Rattle.np_check.specs.Prelude.{Holds, IsEndOf, IsOf, complies, counterexample_of, first_given}
+use Rattle.np_statements.specs.Prelude.{Allow, AskedLine, At, Broken, Counterexample, Deny, Ends, EstateLists, IsAsked, IsFirstBrokenLine, IsNamedPod, IsPlace, IsQuestion, IsWellLine, LineHolds, PlaceEnd, Question, StatementLine, Wanted, asked_line, broken_by, broken_of, ends_found, first_broken, is_allowed_counterexample}
 use Rattle.np_check.specs.declared.counterexample.PlaceEnd.TheVariants.{Work}
 use Rattle.np_conns.specs.Prelude.{has_spot}
 use Rattle.np_model.specs.Prelude.{IsLawful}
@@ -27,10 +27,10 @@ not_broken lists asked none = sym (ap (option_map (broken_by lists asked.line)) 
 
 -- the verdict of the packet is not the wanted one
 unwanted : (lists : EstateLists) (question : Question) (packet : Counterexample) → IsQuestion lists question → counterexample_of lists question ≡ Some packet →
-    complies question.wanted (is_allowed lists packet) ≡ false
+    complies question.wanted (is_allowed_counterexample lists packet) ≡ false
 unwanted lists question packet is found =
     let first = first_packet lists question packet is.sources_ascend is.destinations_ascend found in
-    not-true (complies question.wanted (is_allowed lists packet)) (and_parts (has_spot question.conns packet.spot) (not (complies question.wanted (is_allowed lists packet))) first.own.broken).1
+    not-true (complies question.wanted (is_allowed_counterexample lists packet)) (and_parts (has_spot question.conns packet.spot) (not (complies question.wanted (is_allowed_counterexample lists packet))) first.own.broken).1
 
 -- and there is one such verdict
 one_verdict : (wanted : Wanted) (verdict other : Bool) → complies wanted verdict ≡ false → complies wanted other ≡ false → verdict ≡ other
@@ -41,7 +41,7 @@ pub broken-is : (lists : EstateLists) (asked : AskedLine) (packet : Counterexamp
     complies asked.question.wanted allowed ≡ false → Some (record { line = asked.line; packet = packet; allowed = allowed }) ≡ broken_of lists asked
 unfolding broken_of
 broken-is lists asked packet allowed is found does =
-    let verdict = one_verdict asked.question.wanted allowed (is_allowed lists packet) does (unwanted lists asked.question packet is found) in
+    let verdict = one_verdict asked.question.wanted allowed (is_allowed_counterexample lists packet) does (unwanted lists asked.question packet is found) in
     let with_verdict : Bool → Option Broken = λ v. Some (record { line = asked.line; packet = packet; allowed = v }) in
     ap with_verdict verdict ∙ sym (ap (option_map (broken_by lists asked.line)) found)
 
@@ -93,7 +93,7 @@ holds-asked lists line asked by lawful does =
           (source.0, (names-addresses lists line.statement.source by.source address by.sources source.0).0 source.1) (to q destination) at;
     })
 
-pub asks-says : (lists : EstateLists) (line : StatementLine) (asked : AskedLine) → IsLawful lists → asked_of lists line ≡ Ok asked → Holds lists asked.question ↔ LineHolds lists line
+pub asks-says : (lists : EstateLists) (line : StatementLine) (asked : AskedLine) → IsLawful lists → asked_line lists line ≡ Ok asked → Holds lists asked.question ↔ LineHolds lists line
 asks-says lists line asked lawful is =
     let by = asked-by lists line asked is in
     (asked-holds lists line asked by lawful, holds-asked lists line asked by lawful)
@@ -146,7 +146,7 @@ broken-by lists asked broken is = of (counterexample_of lists asked.question) re
     of None none is = absurd (none-some broken is)
     of (Some packet) found is = record { packet = packet; found = found; is = sym (same_Some (broken_by lists asked.line packet) broken is) }
 
-at_first : (lists : EstateLists) (line : StatementLine) (lines : List StatementLine) (asked : AskedLine) (broken : Broken) → IsLawful lists → IsAsked lists asked → asked_of lists line ≡ Ok asked →
+at_first : (lists : EstateLists) (line : StatementLine) (lines : List StatementLine) (asked : AskedLine) (broken : Broken) → IsLawful lists → IsAsked lists asked → asked_line lists line ≡ Ok asked →
     broken_of lists asked ≡ Some broken → IsFirstBrokenLine lists (line ∷ lines) broken
 at_first lists line lines asked broken lawful known found is =
     let asks = asked-by lists line asked found in
@@ -165,7 +165,7 @@ at_first lists line lines asked broken lawful known found is =
       is_asked = found;
       first = first_packet lists asked.question by.packet known.sources_ascend known.destinations_ascend by.found;
       verdict = refl;
-      unwanted = ap (λ (wanted : Wanted). complies wanted (is_allowed lists by.packet)) own_wanted ∙ unwanted lists asked.question by.packet known by.found;
+      unwanted = ap (λ (wanted : Wanted). complies wanted (is_allowed_counterexample lists by.packet)) own_wanted ∙ unwanted lists asked.question by.packet known by.found;
     })
 
 later : (lists : EstateLists) (line : StatementLine) (lines : List StatementLine) (broken : Broken) → LineHolds lists line → IsFirstBrokenLine lists lines broken →
@@ -186,19 +186,19 @@ later lists line lines broken does rest = record {
 }
 
 pub first-is : (lists : EstateLists) (lines : List StatementLine) (asked : List AskedLine) (broken : Broken) → IsLawful lists → All IsWellLine lines → ends_found lists lines ≡ Ok asked →
-    first_of (broken_of lists) asked ≡ Some broken → IsFirstBrokenLine lists lines broken
-first-is lists [] asked broken lawful well found is = absurd (none-some broken (ap (first_of (broken_of lists)) (same_ok [] asked found) ∙ is))
+    first_given (broken_of lists) asked ≡ Some broken → IsFirstBrokenLine lists lines broken
+first-is lists [] asked broken lawful well found is = absurd (none-some broken (ap (first_given (broken_of lists)) (same_ok [] asked found) ∙ is))
 first-is lists (line ∷ lines) asked broken lawful well found is =
     let by = found-by lists line lines asked found in
     let known : All (IsAsked lists) (by.first ∷ by.others) = subst (All (IsAsked lists)) (sym by.are) (all-known lists (line ∷ lines) asked well found) in
-    of by (All-head (IsAsked lists) by.first by.others known) (broken_of lists by.first) refl (ap (first_of (broken_of lists)) by.are ∙ is)
+    of by (All-head (IsAsked lists) by.first by.others known) (broken_of lists by.first) refl (ap (first_given (broken_of lists)) by.are ∙ is)
     (first-is lists lines by.others broken lawful (All-tail IsWellLine line lines well) by.others_are)
   where
     of : (by : AreFoundBy lists line lines asked) → IsAsked lists by.first → (one : Option Broken) → broken_of lists by.first ≡ one →
-        option_or (broken_of lists by.first) (first_of (broken_of lists) by.others) ≡ Some broken → (first_of (broken_of lists) by.others ≡ Some broken → IsFirstBrokenLine lists lines broken) →
+        option_or (broken_of lists by.first) (first_given (broken_of lists) by.others) ≡ Some broken → (first_given (broken_of lists) by.others ≡ Some broken → IsFirstBrokenLine lists lines broken) →
         IsFirstBrokenLine lists (line ∷ lines) broken
     of by known None none is rest =
         later lists line lines broken ((asks-says lists line by.first lawful by.first_is).0 (unbroken-holds lists by.first lawful none))
-        (rest (sym (ap (λ (one : Option Broken). option_or one (first_of (broken_of lists) by.others)) none) ∙ is))
+        (rest (sym (ap (λ (one : Option Broken). option_or one (first_given (broken_of lists) by.others)) none) ∙ is))
     of by known (Some one) here is rest =
-        at_first lists line lines by.first broken lawful known by.first_is (here ∙ sym (ap (λ (found : Option Broken). option_or found (first_of (broken_of lists) by.others)) here) ∙ is)
+        at_first lists line lines by.first broken lawful known by.first_is (here ∙ sym (ap (λ (found : Option Broken). option_or found (first_given (broken_of lists) by.others)) here) ∙ is)

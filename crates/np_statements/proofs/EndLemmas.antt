@@ -9,7 +9,7 @@ use Rattle.std.proofs.lemmas.List.Elements.{All-cons, All-filter, All-nil, All-w
 use Rattle.std.proofs.lemmas.List.Quantifiers.{position-Some}
 use Rattle.std.proofs.lemmas.Option.{slice_get_read}
 use Rattle.np_addr.specs.Prelude.{AddressRanges}
-use Rattle.np_statements.specs.Prelude.{Addresses, Block, Cidr, EndForm, Ends, EstateLists, Namespace, Pod, Pods, Work, addresses_alone, addresses_in, all_works, ends_of, every_address, is_address_form, is_in_namespace, named_alone, works_alone}
+use Rattle.np_statements.specs.Prelude.{Addresses, Block, Cidr, EndForm, Ends, EstateLists, Namespace, Pod, Pods, Work, addresses_alone, all_works, block_addresses, ends_of, every_address, is_address_form, is_work_in_namespace, named_alone, works_alone}
 use Rattle.np_check.proofs.FirstLemmas.{range-append}
 use Rattle.np_check.proofs.SortedLemmas.{filtered}
 use Rattle.np_check.specs.Prelude.{HasNoAddress, is_ascending}
@@ -22,7 +22,7 @@ use Rattle.np_kinds.specs.Prelude.{IsWorkload, number_of_workloads, source_pod}
 -- the first pod of a workload tells
 pub in_namespace-by : (lists : EstateLists) (name : List ℕ) (work : ℕ) (members : List ℕ) (pods : List Pod) (pod : Pod) (answer : Bool) → members ≡ members_of (folding_of lists) work →
     pods ≡ lists.pods → source_pod (folding_of lists) work < length lists.pods → pod ≡ get_or pods (slice_index members 0) pod → answer ≡ bytes_eq pod.namespace name →
-    answer ≡ is_in_namespace lists name work
+    answer ≡ is_work_in_namespace lists name work
 in_namespace-by lists name work members pods pod answer members_are pods_are within pod_is is =
     let here : pod ≡ get_or lists.pods (source_pod (folding_of lists) work) pod = pod_is ∙ ap (λ (ms : List ℕ). get_or pods (slice_index ms 0) pod) members_are ∙ ap
     (λ (ps : List Pod). get_or ps (source_pod (folding_of lists) work) pod) pods_are in
@@ -85,8 +85,8 @@ ends_of-are lists Pods ends is =
     let all : works_alone (filter (λ n. true) (all_works lists)) ≡ works_alone (all_works lists) = ap works_alone (filter-all 0 (number_of_workloads lists)) in
     subst (AreEnds lists Pods) (all ∙ same_ok (works_alone (all_works lists)) ends is) (are-works lists Pods (λ n. true))
 ends_of-are lists Addresses ends is = subst (AreEnds lists Addresses) (same_ok (addresses_alone every_address) ends is) (are-addresses lists Addresses every_address refl)
-ends_of-are lists (Namespace name) ends is = subst (AreEnds lists (Namespace name)) (same_ok (works_alone (filter (is_in_namespace lists name) (all_works lists))) ends is)
-    (are-works lists (Namespace name) (is_in_namespace lists name))
+ends_of-are lists (Namespace name) ends is = subst (AreEnds lists (Namespace name)) (same_ok (works_alone (filter (is_work_in_namespace lists name) (all_works lists))) ends is)
+    (are-works lists (Namespace name) (is_work_in_namespace lists name))
 ends_of-are lists (Work name) ends is = of (number_named (folding_of lists) name) refl is
   where
     of : (found : Option ℕ) → number_named (folding_of lists) name ≡ found → named_alone name found ≡ Ok ends → AreEnds lists (Work name) ends
@@ -98,7 +98,7 @@ ends_of-are lists (Work name) ends is = of (number_named (folding_of lists) name
           alone = λ _. (refl, refl);
         } in
         subst (AreEnds lists (Work name)) (same_ok (works_alone (work ∷ [])) ends is) one
-ends_of-are lists (Block cidr) ends is = subst (AreEnds lists (Block cidr)) (same_ok (addresses_alone (addresses_in cidr)) ends is) (are-addresses lists (Block cidr) (addresses_in cidr) refl)
+ends_of-are lists (Block cidr) ends is = subst (AreEnds lists (Block cidr)) (same_ok (addresses_alone (block_addresses cidr)) ends is) (are-addresses lists (Block cidr) (block_addresses cidr) refl)
 
 -- ---- the ends of address forms
 
@@ -106,7 +106,7 @@ pub all-addresses : (lists : EstateLists) (form : EndForm) (made : AddressRanges
 unfolding ends_of
 all-addresses lists form made ends form_is is alone = ap (ends_of lists) form_is ∙ ap (λ (block : AddressRanges). Ok (addresses_alone block)) (sym is) ∙ ap Ok (sym alone)
 
-pub block-addresses : (lists : EstateLists) (form : EndForm) (cidr : Cidr) (made : AddressRanges) (ends : Ends) → form ≡ Block cidr → made ≡ addresses_in cidr → ends ≡ addresses_alone made →
+pub block-addresses : (lists : EstateLists) (form : EndForm) (cidr : Cidr) (made : AddressRanges) (ends : Ends) → form ≡ Block cidr → made ≡ block_addresses cidr → ends ≡ addresses_alone made →
     ends_of lists form ≡ Ok ends
 unfolding ends_of
 block-addresses lists form cidr made ends form_is is alone = ap (ends_of lists) form_is ∙ ap (λ (block : AddressRanges). Ok (addresses_alone block)) (sym is) ∙ ap Ok (sym alone)

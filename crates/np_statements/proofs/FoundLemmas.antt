@@ -6,7 +6,7 @@ use Rattle.std.specs.Prelude.{IsOk}
 use Rattle.std.proofs.lemmas.Bool.{and_cases, false≢true}
 use Rattle.std.proofs.lemmas.List.{at_drop_more, drop_all}
 use Rattle.std.proofs.lemmas.List.Elements.{All-cons, All-get_or, All-head, All-nil, All-same, All-tail}
-use Rattle.np_statements.specs.Prelude.{AskedLine, Ends, EstateLists, IsAsked, IsWellLine, StatementLine, TellsUnknown, asked_of, ends_found, ends_of, is_address_form, ◌>>=◌}
+use Rattle.np_statements.specs.Prelude.{AskedLine, Ends, EstateLists, IsAsked, IsWellLine, StatementLine, TellsUnknown, asked_line, ends_found, ends_of, is_address_form, ◌>>=◌}
 use Rattle.np_statements.proofs.EndLemmas.{ends_of-are}
 use Rattle.np_statements.proofs.StepLemmas.{after, after-none, same_ok, then-ok}
 
@@ -20,8 +20,8 @@ pub record IsAskedBy (lists : EstateLists) (line : StatementLine) (asked : Asked
   pub destinations : ends_of lists line.statement.destination ≡ Ok destination
   pub is : record { line = line.line; question = record { wanted = line.statement.wanted; source = source; destination = destination; conns = line.statement.conns } } ≡ asked
 
-pub asked-by : (lists : EstateLists) (line : StatementLine) (asked : AskedLine) → asked_of lists line ≡ Ok asked → IsAskedBy lists line asked
-unfolding asked_of
+pub asked-by : (lists : EstateLists) (line : StatementLine) (asked : AskedLine) → asked_line lists line ≡ Ok asked → IsAskedBy lists line asked
+unfolding asked_line
 asked-by lists line asked is =
     let made : Ends → Ends → AskedLine = λ from to. record { line = line.line; question = record { wanted = line.statement.wanted; source = from; destination = to; conns = line.statement.conns } } in
     let (source, sources, next) = then-ok (ends_of lists line.statement.source) (λ from. ends_of lists line.statement.destination >>= (λ to. Ok (made from to))) asked is in
@@ -48,13 +48,13 @@ asked-known lists line asked well by =
 pub record AreFoundBy (lists : EstateLists) (line : StatementLine) (lines : List StatementLine) (asked : List AskedLine) : Type 0 where
   pub first : AskedLine
   pub others : List AskedLine
-  pub first_is : asked_of lists line ≡ Ok first
+  pub first_is : asked_line lists line ≡ Ok first
   pub others_are : ends_found lists lines ≡ Ok others
   pub are : first ∷ others ≡ asked
 
 pub found-by : (lists : EstateLists) (line : StatementLine) (lines : List StatementLine) (asked : List AskedLine) → ends_found lists (line ∷ lines) ≡ Ok asked → AreFoundBy lists line lines asked
 found-by lists line lines asked is =
-    let (first, first_is, next) = then-ok (asked_of lists line) (λ one. ends_found lists lines >>= (λ others. Ok (one ∷ others))) asked is in
+    let (first, first_is, next) = then-ok (asked_line lists line) (λ one. ends_found lists lines >>= (λ others. Ok (one ∷ others))) asked is in
     let (others, others_are, last) = then-ok (ends_found lists lines) (λ rest. Ok (first ∷ rest)) asked next in
     record { first = first; others = others; first_is = first_is; others_are = others_are; are = same_ok (first ∷ others) asked last }
 
@@ -73,10 +73,10 @@ pub at_turn : {X : Type 0} (P : X → Type 0) (xs : List X) (i : ℕ) (x : X) �
 at_turn P xs i x (within, is) all = subst P (sym is) (All-get_or P xs i x within all)
 
 line_at : (lists : EstateLists) (lines : List StatementLine) (i : ℕ) (line : StatementLine) (front : List AskedLine) → (i < length lines) × (line ≡ get_or lines i line) →
-    after front (ends_found lists (drop i lines)) ≡ after front (asked_of lists line >>= (λ first. ends_found lists (drop (i + 1) lines) >>= (λ others. Ok (first ∷ others))))
+    after front (ends_found lists (drop i lines)) ≡ after front (asked_line lists line >>= (λ first. ends_found lists (drop (i + 1) lines) >>= (λ others. Ok (first ∷ others))))
 line_at lists lines i line front (within, is) =
     at_drop_more (λ (rest : List StatementLine). after front (ends_found lists rest)) lines i line within
-    ∙ ap (λ (one : StatementLine). after front (asked_of lists one >>= (λ first. ends_found lists (drop (i + 1) lines) >>= (λ others. Ok (first ∷ others))))) (sym is)
+    ∙ ap (λ (one : StatementLine). after front (asked_line lists one >>= (λ first. ends_found lists (drop (i + 1) lines) >>= (λ others. Ok (first ∷ others))))) (sym is)
 
 found_by : (lists : EstateLists) (lines : List StatementLine) (i : ℕ) (front : List AskedLine) → Result AskedLine (List ℕ) → Result (List AskedLine) (List ℕ)
 found_by lists lines i front found = after front (found >>= (λ first. ends_found lists (drop (i + 1) lines) >>= (λ others. Ok (first ∷ others))))
@@ -87,7 +87,7 @@ after-step front first (Err name) = refl
 
 -- a line more
 pub one_found : (lists : EstateLists) (lines : List StatementLine) (i next : ℕ) (line : StatementLine) (front made : List AskedLine) (first : AskedLine) (all : Result (List AskedLine) (List ℕ)) →
-    (i < length lines) × (line ≡ get_or lines i line) → all ≡ after front (ends_found lists (drop i lines)) → asked_of lists line ≡ Ok first → made ≡ front ++ first ∷ [] → next ≡ i + 1 →
+    (i < length lines) × (line ≡ get_or lines i line) → all ≡ after front (ends_found lists (drop i lines)) → asked_line lists line ≡ Ok first → made ≡ front ++ first ∷ [] → next ≡ i + 1 →
     all ≡ after made (ends_found lists (drop next lines))
 unfolding found_by
 one_found lists lines i next line front made first all turn so_far found more later =
@@ -98,7 +98,7 @@ one_found lists lines i next line front made first all turn so_far found more la
 
 -- the first name that no workload has
 pub not_found : (lists : EstateLists) (lines : List StatementLine) (i : ℕ) (line : StatementLine) (front : List AskedLine) (name : List ℕ) (all : Result (List AskedLine) (List ℕ)) →
-    (i < length lines) × (line ≡ get_or lines i line) → all ≡ after front (ends_found lists (drop i lines)) → asked_of lists line ≡ Err name → all ≡ Err name
+    (i < length lines) × (line ≡ get_or lines i line) → all ≡ after front (ends_found lists (drop i lines)) → asked_line lists line ≡ Err name → all ≡ Err name
 unfolding found_by
 not_found lists lines i line front name all turn so_far found = so_far ∙ line_at lists lines i line front turn ∙ ap (found_by lists lines i front) found
 
@@ -128,8 +128,8 @@ asked_by line source destination = source >>= (λ from. destination >>=
 
 -- of a line by those of its ends, its source first
 pub told-line : (lists : EstateLists) (line : StatementLine) (source destination : Option (Bor (List ℕ))) → TellsUnknown source (ends_of lists line.statement.source) →
-    TellsUnknown destination (ends_of lists line.statement.destination) → TellsUnknown (option_or source destination) (asked_of lists line)
-unfolding asked_of
+    TellsUnknown destination (ends_of lists line.statement.destination) → TellsUnknown (option_or source destination) (asked_line lists line)
+unfolding asked_line
 told-line lists line (Some name) destination from to = ap (λ (found : Result Ends (List ℕ)). asked_by line found (ends_of lists line.statement.destination)) from
 told-line lists line None (Some name) from to =
     let source = told (ends_of lists line.statement.source) from in
@@ -138,7 +138,7 @@ told-line lists line None (Some name) from to =
 told-line lists line None None from to =
     let source = told (ends_of lists line.statement.source) from in
     let destination = told (ends_of lists line.statement.destination) to in
-    told-by (asked_of lists line) _
+    told-by (asked_line lists line) _
     (ap (λ (found : Result Ends (List ℕ)). asked_by line found (ends_of lists line.statement.destination)) source.1
     ∙ ap (asked_by line (Ok source.0)) destination.1)
 
@@ -147,9 +147,9 @@ abbrev pub AreFoundTo : EstateLists → List StatementLine → ℕ → Type 0
 AreFoundTo lists lines i = (front : List AskedLine) × (ends_found lists lines ≡ after front (ends_found lists (drop i lines)))
 
 pub told_more : (lists : EstateLists) (lines : List StatementLine) (i : ℕ) (line : StatementLine) → (i < length lines) × (line ≡ get_or lines i line) → AreFoundTo lists lines i →
-    IsOk (asked_of lists line) → AreFoundTo lists lines (i + 1)
+    IsOk (asked_line lists line) → AreFoundTo lists lines (i + 1)
 told_more lists lines i line turn so_far is =
-    let first = told (asked_of lists line) is in
+    let first = told (asked_line lists line) is in
     (so_far.0 ++ first.0 ∷ [], one_found lists lines i (i + 1) line so_far.0 (so_far.0 ++ first.0 ∷ []) first.0 _ turn so_far.1 first.1 refl refl)
 
 pub told_all : (lists : EstateLists) (lines : List StatementLine) (i : ℕ) → length lines ≤ i → AreFoundTo lists lines i → IsOk (ends_found lists lines)

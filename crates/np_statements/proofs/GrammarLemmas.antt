@@ -9,8 +9,8 @@ use Rattle.std.proofs.lemmas.Slice.Eq.{bytes_eq-Decides}
 use Rattle.np_addr.specs.Prelude.{cidr_of}
 use Rattle.np_check.proofs.FirstLemmas.{first_of-from, none_both, none_each}
 use Rattle.np_statements.proofs.OneStatement.{one_form, one_statement}
-use Rattle.np_check.specs.Prelude.{first_of}
-use Rattle.np_statements.specs.Prelude.{Addresses, Allow, Block, Deny, EndForm, IsEndText, IsSpelled, IsStatementText, IsWorkText, Namespace, Pods, StatementText, Wanted, Work, all_addresses, all_pods, behind, block, conns_read, end_read, first_cut, has_mark, is_address_form, is_work_text, namespace, said, said_between, statement_read, wanted_text, workload}
+use Rattle.np_check.specs.Prelude.{first_given}
+use Rattle.np_statements.specs.Prelude.{Addresses, Allow, Block, Deny, EndForm, IsEndText, IsSpelled, IsStatementText, IsWorkText, Namespace, Pods, StatementText, Wanted, Work, all_addresses, all_pods_form, behind, block_form, conns_read, end_read, first_cut, has_mark, is_address_form, is_work_text, namespace_form, said, said_between, statement_read, wanted_text, workload_form}
 use Rattle.np_model.specs.Prelude.{has_slash, is_name}
 use Rattle.np_statements.proofs.ConnsLemmas.{conns_read-is, conns_read-text}
 use Rattle.np_statements.proofs.CutLemmas.{behind-append, behind-is, by-lacks, first_cut-none, first_cut-some, if_some, lacks-by, then_some}
@@ -53,19 +53,19 @@ word-reads text word form other of is =
     let same : text ≡ word = (bytes_eq-Decides text word).0 parts.0 in
     subst (IsEndText text) (same_Some form other parts.1) (subst (λ (t : List ℕ). IsEndText t form) (sym same) of)
 
-namespace-reads : IsReader namespace
+namespace-reads : IsReader namespace_form
 namespace-reads text form is =
     let (name, stands, made) = then_some (λ name. if is_name name then Some (Namespace name) else None) (behind (codes "namespace ") text) form is in
     let parts = if_some (is_name name) (Some (Namespace name)) form made in
     subst (IsEndText text) (same_Some (Namespace name) form parts.1) (behind-is (codes "namespace ") text name stands, parts.0)
 
-workload-reads : IsReader workload
+workload-reads : IsReader workload_form
 workload-reads text form is =
     let (name, stands, made) = then_some (λ name. if is_work_text name then Some (Work name) else None) (behind (codes "workload ") text) form is in
     let parts = if_some (is_work_text name) (Some (Work name)) form made in
     subst (IsEndText text) (same_Some (Work name) form parts.1) (behind-is (codes "workload ") text name stands, work_text-is name parts.0)
 
-block-reads : IsReader block
+block-reads : IsReader block_form
 block-reads text form is = of (cidr_of text) refl is
   where
     of : (found : Option _) → cidr_of text ≡ found → option_map Block found ≡ Some form → IsEndText text form
@@ -73,7 +73,7 @@ block-reads text form is = of (cidr_of text) refl is
     of (Some cidr) found is = subst (IsEndText text) (same_Some (Block cidr) form is) found
 
 readers : List (List ℕ → Option EndForm)
-readers = all_pods ∷ all_addresses ∷ namespace ∷ workload ∷ block ∷ []
+readers = all_pods_form ∷ all_addresses ∷ namespace_form ∷ workload_form ∷ block_form ∷ []
 
 all-read : All IsReader readers
 unfolding readers
@@ -99,14 +99,14 @@ none-read text form none is =
     by_word : (word : List ℕ) (one : EndForm) → (if bytes_eq text word then Some one else None) ≡ None → text ≡ word → ⊥
     by_word word one none same = none-some one (sym none ∙ when (bytes_eq text word) one ((bytes_eq-Decides text word).1 same))
 
-    some : (one : EndForm) → (all_pods text ≡ None) × ((all_addresses text ≡ None) × ((namespace text ≡ None) × ((workload text ≡ None) × ((block text ≡ None) × Unit {0})))) → IsEndText text one → ⊥
+    some : (one : EndForm) → (all_pods_form text ≡ None) × ((all_addresses text ≡ None) × ((namespace_form text ≡ None) × ((workload_form text ≡ None) × ((block_form text ≡ None) × Unit {0})))) → IsEndText text one → ⊥
     some Pods each same = by_word (codes "any pod") Pods each.0 same
     some Addresses each same = by_word (codes "any address") Addresses each.1.0 same
     some (Namespace name) each (spelled, named) =
-        none-some (Namespace name) (sym each.1.1.0 ∙ ap namespace spelled ∙ ap (option_and_then (λ n. if is_name n then Some (Namespace n) else None)) (behind-append (codes "namespace ") name) ∙ when
+        none-some (Namespace name) (sym each.1.1.0 ∙ ap namespace_form spelled ∙ ap (option_and_then (λ n. if is_name n then Some (Namespace n) else None)) (behind-append (codes "namespace ") name) ∙ when
         (is_name name) (Namespace name) named)
     some (Work name) each (spelled, named) =
-        none-some (Work name) (sym each.1.1.1.0 ∙ ap workload spelled ∙ ap (option_and_then (λ n. if is_work_text n then Some (Work n) else None)) (behind-append (codes "workload ") name) ∙ when
+        none-some (Work name) (sym each.1.1.1.0 ∙ ap workload_form spelled ∙ ap (option_and_then (λ n. if is_work_text n then Some (Work n) else None)) (behind-append (codes "workload ") name) ∙ when
         (is_work_text name) (Work name) (is-work_text name named))
     some (Block cidr) each reads = none-some (Block cidr) (sym each.1.1.1.1.0 ∙ ap (option_map Block) reads)
 
@@ -182,7 +182,7 @@ none-is line statement none is =
     let behind_source = is.destination ++ (codes " : " ++ is.conns) in
     let sides = is.source ++ (codes " => " ++ behind_source) in
     let begins : line ≡ (wanted_text statement.wanted ++ codes " ") ++ sides = is.spelled ∙ sym (append_assoc (wanted_text statement.wanted) (codes " ") sides) in
-    let each = none_both (gives Allow) (first_of gives (Deny ∷ [])) none in
+    let each = none_both (gives Allow) (first_given gives (Deny ∷ [])) none in
     let nothing : said statement.wanted sides ≡ None = sym (ap (option_and_then (said statement.wanted))
     (ap (behind (wanted_text statement.wanted ++ codes " ")) begins ∙ behind-append (wanted_text statement.wanted ++ codes " ") sides)) ∙ of statement.wanted each.0
     (none_both (gives Deny) None each.1).0 in

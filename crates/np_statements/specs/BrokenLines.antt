@@ -1,6 +1,6 @@
 -- The first line whose statement does not hold.
 use Rattle.std.specs.Prelude.{ℕ, List, Bool, Option, option_map, Result, Ok}
-use Rattle.np_check.specs.Prelude.{allows_between, counterexample_of, first_of}
+use Rattle.np_check.specs.Prelude.{allows_between, counterexample_of, first_given}
 use Rattle.np_statements.specs.Types.{AskedLine, At, Broken, Counterexample, EstateLists, PlaceEnd, StatementLine}
 use Rattle.np_check.specs.declared.counterexample.PlaceEnd.TheVariants.{Work}
 use Rattle.np_statements.specs.FoundEnds.{ends_found}
@@ -8,12 +8,12 @@ use Rattle.np_statements.specs.Steps.{◌>>=◌}
 use Rattle.np_kinds.specs.Prelude.{IsWorkload}
 
 -- whether a packet is allowed
-abbrev pub is_allowed : EstateLists → Counterexample → Bool
-is_allowed lists packet = allows_between lists packet.source packet.destination packet.family packet.spot
+abbrev pub is_allowed_counterexample : EstateLists → Counterexample → Bool
+is_allowed_counterexample lists packet = allows_between lists packet.source packet.destination packet.family packet.spot
 
 -- a packet that breaks the line of a number, with its verdict
 abbrev pub broken_by : EstateLists → ℕ → Counterexample → Broken
-broken_by lists line packet = record { line = line; packet = packet; allowed = is_allowed lists packet }
+broken_by lists line packet = record { line = line; packet = packet; allowed = is_allowed_counterexample lists packet }
 
 -- how a line is broken, if it is: by the first packet that does not comply
 unfoldable pub broken_of : EstateLists → AskedLine → Option Broken
@@ -21,7 +21,7 @@ broken_of lists asked = option_map (broken_by lists asked.line) (counterexample_
 
 -- how the first broken line is
 unfoldable pub first_broken : EstateLists → List AskedLine → Option Broken
-first_broken lists asked = first_of (broken_of lists) asked
+first_broken lists asked = first_given (broken_of lists) asked
 
 -- what is found of statements: how the first broken line is, or the first name that no workload has
 unfoldable pub broken_among : EstateLists → List StatementLine → Result (Option Broken) (List ℕ)

@@ -5,12 +5,12 @@ use Rattle.np_statements.specs.Types.{At, Broken, EstateLists, Family, PlaceEnd}
 use Rattle.np_addr.specs.declared.address.Family.TheVariants.{Four, Six}
 use Rattle.np_check.specs.declared.counterexample.PlaceEnd.TheVariants.{Work}
 use Rattle.np_model.specs.Prelude.{families_of}
-use Rattle.np_fold.specs.Prelude.{folding_of, name_of}
+use Rattle.np_fold.specs.Prelude.{folding_of, name_of_workload}
 use Rattle.np_rules.specs.Prelude.{said_text}
 
 -- an end of a packet: the name of its workload, or the canonical text of its address
 abbrev pub place_text : EstateLists → PlaceEnd → List ℕ
-place_text lists (Work work) = name_of (folding_of lists) work
+place_text lists (Work work) = name_of_workload (folding_of lists) work
 place_text lists (At address) = address_text address
 
 -- the mark of a family, where the list has both

@@ -1,7 +1,7 @@
 -- Texts cut at marks.
 use Rattle.std.specs.Prelude.{ℕ, List, [], ◌∷◌, ◌==◌, Bool, map, Option, Some, None, is_some, if◌then◌else◌}
 use Rattle.std.specs.Option.{option_and_then}
-use Rattle.np_check.specs.Prelude.{first_of}
+use Rattle.np_check.specs.Prelude.{first_given}
 
 -- what stands in a text behind its beginning, where it begins so
 unfoldable pub behind : List ℕ → List ℕ → Option (List ℕ)
@@ -16,7 +16,7 @@ halves (byte ∷ text) = ([], byte ∷ text) ∷ map (λ half. (byte ∷ half.0,
 
 -- what is made of the two parts of a text round a mark, at the first place of the mark where something is made
 unfoldable pub first_cut : {Y : Type 0} → List ℕ → (List ℕ → List ℕ → Option Y) → List ℕ → Option Y
-first_cut mark make text = first_of (λ half. option_and_then (make half.0) (behind mark half.1)) (halves text)
+first_cut mark make text = first_given (λ half. option_and_then (make half.0) (behind mark half.1)) (halves text)
 
 -- whether a mark stands somewhere in a text
 unfoldable pub has_mark : List ℕ → List ℕ → Bool

@@ -16,8 +16,8 @@ abbrev pub all_works : EstateLists → List ℕ
 all_works lists = range_with_len 0 (number_of_workloads lists)
 
 -- whether a workload is of the namespace of a name: its pods are, which the first of them tells
-abbrev pub is_in_namespace : EstateLists → List ℕ → ℕ → Bool
-is_in_namespace lists name work =
+abbrev pub is_work_in_namespace : EstateLists → List ℕ → ℕ → Bool
+is_work_in_namespace lists name work =
     option_map_or (λ pod. bytes_eq pod.namespace name) (slice_get lists.pods (source_pod (folding_of lists) work)) false
 
 -- ---- addresses
@@ -30,9 +30,9 @@ abbrev pub every_address : AddressRanges
 every_address = record { first = record { lo = 0; hi = 2 ^ 32 - 1 } ∷ []; second = record { lo = 0; hi = 2 ^ 128 - 1 } ∷ [] }
 
 -- the addresses of a block: all that begin with its first bits, as many as its length says
-abbrev pub addresses_in : Cidr → AddressRanges
-addresses_in (Four base len) = record { first = record { lo = base; hi = base + 2 ^ (32 - len) - 1 } ∷ []; second = [] }
-addresses_in (Six base len) = record { first = []; second = record { lo = base; hi = base + 2 ^ (128 - len) - 1 } ∷ [] }
+abbrev pub block_addresses : Cidr → AddressRanges
+block_addresses (Four base len) = record { first = record { lo = base; hi = base + 2 ^ (32 - len) - 1 } ∷ []; second = [] }
+block_addresses (Six base len) = record { first = []; second = record { lo = base; hi = base + 2 ^ (128 - len) - 1 } ∷ [] }
 
 -- ---- forms
 
@@ -51,6 +51,6 @@ named_alone name None = Err name
 unfoldable pub ends_of : EstateLists → EndForm → Result Ends (List ℕ)
 ends_of lists Pods = Ok (works_alone (all_works lists))
 ends_of lists Addresses = Ok (addresses_alone every_address)
-ends_of lists (Namespace name) = Ok (works_alone (filter (is_in_namespace lists name) (all_works lists)))
+ends_of lists (Namespace name) = Ok (works_alone (filter (is_work_in_namespace lists name) (all_works lists)))
 ends_of lists (Work name) = named_alone name (number_named (folding_of lists) name)
-ends_of lists (Block cidr) = Ok (addresses_alone (addresses_in cidr))
+ends_of lists (Block cidr) = Ok (addresses_alone (block_addresses cidr))

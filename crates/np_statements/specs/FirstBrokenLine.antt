@@ -2,8 +2,8 @@
 use Rattle.std.specs.Prelude.{◌≡◌, List, ◌∷◌, ◌++◌, false, All, Ok}
 use Rattle.np_check.specs.Prelude.{IsFirstBroken, complies}
 use Rattle.np_statements.specs.Types.{AskedLine, Broken, EstateLists, StatementLine}
-use Rattle.np_statements.specs.BrokenLines.{is_allowed}
-use Rattle.np_statements.specs.FoundEnds.{asked_of}
+use Rattle.np_statements.specs.BrokenLines.{is_allowed_counterexample}
+use Rattle.np_statements.specs.FoundEnds.{asked_line}
 use Rattle.np_statements.specs.Holding.{LineHolds}
 
 -- The lines before it hold, and it does not: its packet is the first that breaks it, and the verdict of that is not the wanted one.
@@ -16,7 +16,7 @@ pub record IsFirstBrokenLine (lists : EstateLists) (lines : List StatementLine) 
   pub earlier_hold : All (LineHolds lists) before
   pub fails : LineHolds lists line → ⊥
   pub asked : AskedLine
-  pub is_asked : asked_of lists line ≡ Ok asked
+  pub is_asked : asked_line lists line ≡ Ok asked
   pub first : IsFirstBroken lists asked.question broken.packet
-  pub verdict : broken.allowed ≡ is_allowed lists broken.packet
+  pub verdict : broken.allowed ≡ is_allowed_counterexample lists broken.packet
   pub unwanted : complies line.statement.wanted broken.allowed ≡ false

@@ -5,8 +5,8 @@ use Rattle.np_statements.specs.Ends.{ends_of}
 use Rattle.np_statements.specs.Steps.{◌>>=◌}
 
 -- what a line asks; the ends of its source are found first
-unfoldable pub asked_of : EstateLists → StatementLine → Result AskedLine (List ℕ)
-asked_of lists line = do
+unfoldable pub asked_line : EstateLists → StatementLine → Result AskedLine (List ℕ)
+asked_line lists line = do
   source ← ends_of lists line.statement.source
   destination ← ends_of lists line.statement.destination
   Ok (record { line = line.line; question = record { wanted = line.statement.wanted; source = source; destination = destination; conns = line.statement.conns } })
@@ -15,6 +15,6 @@ asked_of lists line = do
 abbrev pub ends_found : EstateLists → List StatementLine → Result (List AskedLine) (List ℕ)
 ends_found lists [] = Ok []
 ends_found lists (line ∷ lines) = do
-  first ← asked_of lists line
+  first ← asked_line lists line
   others ← ends_found lists lines
   Ok (first ∷ others)

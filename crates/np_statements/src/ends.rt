@@ -74,7 +74,7 @@ fn all_works(alloc: Global, folded: &Folded) -> Result<Seq<u32>, NoMemory>
 // The numbers of the workloads of a namespace.
 fn works_in(alloc: Global, folded: &Folded, name: &str) -> Result<Seq<u32>, NoMemory>
     ensures { IfOk result (λ made. made
-        ≡ filter (spec.is_in_namespace folded.now name.now) (spec.all_works folded.now)) }
+        ≡ filter (spec.is_work_in_namespace folded.now name.now) (spec.all_works folded.now)) }
 {
     let mut works = Seq::new(alloc);
     for work in 0..folded.workloads().count() {
@@ -88,7 +88,7 @@ fn works_in(alloc: Global, folded: &Folded, name: &str) -> Result<Seq<u32>, NoMe
 // Whether a workload is of a namespace, which the first of its pods tells.
 fn is_in_namespace(folded: &Folded, name: &str, work: u32) -> bool
     requires { IsWorkload folded.now work }
-    ensures { result ≡ spec.is_in_namespace folded.now name.now work }
+    ensures { result ≡ spec.is_work_in_namespace folded.now name.now work }
 {
     let first = folded.workloads().members(work)[0];
     folded.estate().pods()[first as usize].namespace.as_str() == name

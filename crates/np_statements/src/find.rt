@@ -27,7 +27,7 @@ pub(crate) fn unknown_name<'a>(folded: &Folded, statements: &'a [StatementLine])
 
 // The first name in a line that no workload has.
 fn unknown_in_line<'a>(folded: &Folded, line: &'a StatementLine) -> Option<&'a Text>
-    ensures { TellsUnknown result (spec.asked_of folded.now line.now) }
+    ensures { TellsUnknown result (spec.asked_line folded.now line.now) }
 {
     let source = unknown_end(folded, &line.statement.source);
     source.or(unknown_end(folded, &line.statement.destination))
@@ -48,14 +48,14 @@ fn unknown_end<'a>(folded: &Folded, form: &'a EndForm) -> Option<&'a Text>
 }
 
 /// What the statement of a line asks. The ends of its source are found first.
-#[tactic(auto, unfolding(crate::specs::FoundEnds::asked_of))]
+#[tactic(auto, unfolding(crate::specs::FoundEnds::asked_line))]
 pub(crate) fn asked_of(
     alloc: Global,
     folded: &Folded,
     line: StatementLine,
 ) -> Result<AskedLine, EndFault>
     requires { IsWellLine line }
-    ensures { GivesEnds result (spec.asked_of folded.now line) }
+    ensures { GivesEnds result (spec.asked_line folded.now line) }
 {
     let StatementLine { line, statement } = line;
     let StatementText {

@@ -3,14 +3,14 @@ ghost use Rattle.std.specs.Prelude.{◌≡◌, ◌≢◌, ◌<◌, ◌↔◌, �
 ghost use Rattle.np_addr.specs.Prelude.{IsAddress, set_has};
 ghost use Rattle.np_addr.specs.declared.address.Address.{Address};
 ghost use Rattle.np_check.specs.Prelude.{Holds};
-ghost use Rattle.np_statements.specs.Prelude.{IsFirstBrokenLine, IsLineOf, IsStatementText, IsWellStatement, LineHolds, NamesAddress, NamesPod, asked_of, ends_found, ends_of, first_broken, statement_of, statement_read, statement_text, statements_of};
+ghost use Rattle.np_statements.specs.Prelude.{IsFirstBrokenLine, IsLineOf, IsStatementText, IsWellStatement, LineHolds, NamesAddress, NamesPod, asked_line, ends_found, ends_of, first_broken, statement_of, statement_read, statement_text, statements_of};
 ghost use Rattle.np_check.specs.declared.question.Ends.{Ends};
 ghost use Rattle.np_statements.specs.declared.statement_text.EndForm.{EndForm};
 ghost use Rattle.np_statements.specs.declared.statement_text.EndForm.TheVariants.{Work};
 ghost use Rattle.np_statements.specs.declared.statement_text.StatementText.{StatementText};
 ghost use Rattle.np_model.specs.Prelude.{IsLawful};
 ghost use Rattle.np_model.specs.declared.lists.EstateLists.{EstateLists};
-ghost use Rattle.np_fold.specs.Prelude.{folding_of, name_of, number_of};
+ghost use Rattle.np_fold.specs.Prelude.{folding_of, name_of_workload, workload_number};
 ghost use Rattle.np_statements.specs.declared.asked_line.AskedLine.{AskedLine};
 ghost use Rattle.np_statements.specs.declared.broken.Broken.{Broken};
 ghost use Rattle.np_statements.specs.declared.statement_line.StatementLine.{StatementLine};
@@ -37,7 +37,7 @@ pub fn text_of_a_statement_reads_again()
 pub fn ends_are_those_of_their_forms()
     ensures pods { (lists : EstateLists) (form : EndForm) (ends : Ends) (place : ℕ) → IsLawful lists →
         ends_of lists form ≡ Ok ends → place < length lists.pods →
-        Contains ends.works (number_of lists place) ↔ NamesPod lists form place }
+        Contains ends.works (workload_number lists place) ↔ NamesPod lists form place }
     ensures addresses { (lists : EstateLists) (form : EndForm) (ends : Ends) (address : Address) →
         ends_of lists form ≡ Ok ends → IsAddress address →
         (set_has ends.block address ≡ true) ↔ NamesAddress form address }
@@ -47,12 +47,12 @@ pub fn ends_are_those_of_their_forms()
 pub fn unknown_names_are_of_no_workload()
     ensures { (lists : EstateLists) (name : List ℕ) →
         (ends_of lists (Work name) ≡ Err name)
-        ↔ ((work : ℕ) → IsWorkload lists work → name_of (folding_of lists) work ≢ name) }
+        ↔ ((work : ℕ) → IsWorkload lists work → name_of_workload (folding_of lists) work ≢ name) }
 {}
 
 /// What a line asks, with its ends found, holds exactly where its statement holds for every pod and every address that it names.
 pub fn lines_ask_what_their_statements_say()
-    ensures { (lists : EstateLists) (line : StatementLine) (asked : AskedLine) → IsLawful lists → asked_of lists line ≡ Ok asked →
+    ensures { (lists : EstateLists) (line : StatementLine) (asked : AskedLine) → IsLawful lists → asked_line lists line ≡ Ok asked →
         Holds lists asked.question ↔ LineHolds lists line }
 {}
 

@@ -7,7 +7,7 @@ use Rattle.std.proofs.lemmas.List.Sums.{length-filter}
 use Rattle.np_table.specs.Prelude.{AddressRow, AreRight, Direction, Egress, EstateLists, Family, Four, Ingress, IsInFamily, OneRowSays, PortSpot, Row, RowKey, Six, Stretch, Table, address_row, address_rows, all_address_rows, all_pair_rows, all_rows, four_of, is_address, is_of_address, is_within, is_workload, pair_key, pair_rows, row_of, rows_of_address, rows_of_addresses, rows_towards, six_of, span_has, table_of, walk, workloads}
 use Rattle.np_conns.specs.Prelude.{Conns, conns_of, has_spot}
 use Rattle.np_model.specs.Prelude.{IsLawful}
-use Rattle.np_fold.specs.Prelude.{Folding, folding_of, number_of}
+use Rattle.np_fold.specs.Prelude.{Folding, folding_of, workload_number}
 use Rattle.np_rules.specs.Prelude.{pod, pod_at}
 use Rattle.np_kinds.proofs.PairLemmas.{with_address-address_allows}
 use Rattle.np_table.proofs.RangeCounts.{one_range}
@@ -193,13 +193,13 @@ addresses-are lists folding workload direction family number spot = refl
 
 -- and so between a pod of the workload and the address
 pub one_row-pods : (lists : EstateLists) (p : ℕ) (direction : Direction) (family : Family) (number : ℕ) → IsLawful lists → p < length lists.pods → IsInFamily family number →
-    OneRowSays (number_of lists p) direction family number (all_rows (table_of lists (folding_of lists))) (with_address lists direction (pod (pod_at lists p)) family number)
+    OneRowSays (workload_number lists p) direction family number (all_rows (table_of lists (folding_of lists))) (with_address lists direction (pod (pod_at lists p)) family number)
 one_row-pods lists p direction family number lawful p_in in_family =
-    let one = one_row-table (table_of lists (folding_of lists)) (number_of lists p) direction family number (number-within lists p p_in) in_family in (
+    let one = one_row-table (table_of lists (folding_of lists)) (workload_number lists p) direction family number (number-within lists p p_in) in_family in (
       one.0,
       one.1,
       λ spot is.
           one.2 spot is
-          ∙ addresses-are lists (folding_of lists) (number_of lists p) direction family number spot
+          ∙ addresses-are lists (folding_of lists) (workload_number lists p) direction family number spot
           ∙ sym (with_address-address_allows lists p direction family number spot lawful p_in),
     )

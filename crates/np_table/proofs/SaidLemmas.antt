@@ -5,13 +5,13 @@ use Rattle.std.proofs.lemmas.Bool.{and_from, and_parts, and_right, false≢true,
 use Rattle.std.proofs.lemmas.List.{length-map}
 use Rattle.std.proofs.lemmas.List.Elements.{All-cons, All-contains, All-head, All-nil, All-same, All-tail, All-weaker, filter-append}
 use Rattle.std.proofs.lemmas.List.Folds.{list_any-append}
-use Rattle.np_table.specs.Prelude.{AllowSamePorts, Direction, Egress, EstateLists, Family, Four, Ingress, IsUnmarked, PortSpot, Proto, Range, Row, RowKey, Sctp, Six, Table, Tcp, Udp, address_rows, all_address_rows, all_pair_rows, all_rows, allows_in, is_between, is_none, is_nothing, is_workload, pair_key, pair_rows, row_if, row_of, rows_between, rows_in, rows_of_both, rows_towards, says, speaks_of, table_of, workloads}
+use Rattle.np_table.specs.Prelude.{AllowSamePorts, Direction, Egress, EstateLists, Family, Four, Ingress, IsUnmarked, PortSpot, Proto, Range, Row, RowKey, Sctp, Six, Table, Tcp, Udp, address_rows, all_address_rows, all_pair_rows, all_rows, allows_in, has_no_range, is_between, is_nothing, is_workload, pair_key, pair_rows, row_if, row_of, rows_between, rows_in, rows_of_both, rows_towards, says, speaks_of, table_of, workloads}
 use Rattle.np_base.specs.Ranges.{holds}
 use Rattle.np_conns.proofs.RunLemmas.{runs-by_members}
 use Rattle.np_conns.specs.Prelude.{Conns, are_same_conns, conns_of, has_spot, is_spot, ranges_of, spans_of}
 use Rattle.np_model.specs.Prelude.{IsLawful, families_of}
 use Rattle.np_fold.proofs.WorkloadLemmas.{number-in_workloads}
-use Rattle.np_fold.specs.Prelude.{Folding, Workload, folding_of, members_of, number_of}
+use Rattle.np_fold.specs.Prelude.{Folding, Workload, folding_of, members_of, workload_number}
 use Rattle.np_conns.proofs.ConnLemmas.{are_same_conns-Decides, conns_of-agrees, conns_of-has}
 use Rattle.np_kinds.proofs.PairLemmas.{between_pods-pair_allows, pair_allows-alone}
 use Rattle.np_table.proofs.RowLemmas.{HasKey, filter-by, filter-flat_map, filter-map_none, pair_rows-key, range-none, range-only}
@@ -21,15 +21,15 @@ use Rattle.np_kinds.specs.Prelude.{between_pods, pair_allows}
 -- ---- sets without ports
 
 -- no port is in ranges that are none
-holds-none : (ranges : List (Range ℕ)) (port : ℕ) → is_none ranges ≡ true → holds (λ p. p) ranges port ≡ false
+holds-none : (ranges : List (Range ℕ)) (port : ℕ) → has_no_range ranges ≡ true → holds (λ p. p) ranges port ≡ false
 holds-none [] port none = refl
 holds-none (range ∷ ranges) port none = absurd (false≢true none)
 
 -- nor in a set without ranges of any protocol
 has_spot-nothing : (conns : Conns) (spot : PortSpot) → is_nothing conns ≡ true → has_spot conns spot ≡ false
 has_spot-nothing conns spot nothing =
-    let both = and_parts (is_none conns.tcp && is_none conns.udp) (is_none conns.sctp) nothing in
-    let parts = and_parts (is_none conns.tcp) (is_none conns.udp) both.0 in
+    let both = and_parts (has_no_range conns.tcp && has_no_range conns.udp) (has_no_range conns.sctp) nothing in
+    let parts = and_parts (has_no_range conns.tcp) (has_no_range conns.udp) both.0 in
     elim spot.proto as (λ proto. holds (λ p. p) (ranges_of conns proto) spot.port ≡ false) [
       | Tcp ↦ holds-none conns.tcp spot.port parts.0
       | Udp ↦ holds-none conns.udp spot.port parts.1
@@ -41,7 +41,7 @@ conns_of-nothing : (passes : PortSpot → Bool) → ((spot : PortSpot) → passe
 conns_of-nothing passes nothing =
     let none : (proto : Proto) → spans_of passes proto ≡ [] = λ proto. sym
     (runs-by_members (λ port. passes (record { proto = proto; port = port })) [] tt (λ port _ _. sym (nothing (record { proto = proto; port = port })))) in
-    and_from _ _ (and_from _ _ (ap is_none (none Tcp)) (ap is_none (none Udp))) (ap is_none (none Sctp))
+    and_from _ _ (and_from _ _ (ap has_no_range (none Tcp)) (ap has_no_range (none Udp))) (ap has_no_range (none Sctp))
 
 -- ---- rows of no ports
 
@@ -279,7 +279,7 @@ unfolding table_of
 names-count lists folding = length-map folding.workloads (λ (one : Workload). one.name)
 
 -- the number of a pod's workload is one of the table
-pub number-within : (lists : EstateLists) (place : ℕ) → place < length lists.pods → number_of lists place < length (table_of lists (folding_of lists)).names
+pub number-within : (lists : EstateLists) (place : ℕ) → place < length lists.pods → workload_number lists place < length (table_of lists (folding_of lists)).names
 unfolding folding_of
 number-within lists place within = rw (names-count lists (folding_of lists)) (number-in_workloads lists place within)
 
@@ -292,9 +292,9 @@ allows_in-estate lists folding source destination family spot has is = allows_in
 -- the rows of the workloads of two different pods say what passes between the pods
 pub allows_in-pods : (lists : EstateLists) (p q : ℕ) (family : Family) (spot : PortSpot) → IsLawful lists → p < length lists.pods → q < length lists.pods → p ≢ q →
     Contains (families_of lists.pods) family → is_spot spot ≡ true →
-    allows_in (rows_between (number_of lists p) (number_of lists q) (all_rows (table_of lists (folding_of lists)))) family spot ≡ between_pods lists p q family spot
+    allows_in (rows_between (workload_number lists p) (workload_number lists q) (all_rows (table_of lists (folding_of lists)))) family spot ≡ between_pods lists p q family spot
 allows_in-pods lists p q family spot lawful p_in q_in differ has is =
-    ap (λ (rows : List Row). allows_in rows family spot) (rows_between-all (table_of lists (folding_of lists)) (number_of lists p) (number_of lists q) (number-within lists p p_in)
+    ap (λ (rows : List Row). allows_in rows family spot) (rows_between-all (table_of lists (folding_of lists)) (workload_number lists p) (workload_number lists q) (number-within lists p p_in)
     (number-within lists q q_in))
-    ∙ allows_in-estate lists (folding_of lists) (number_of lists p) (number_of lists q) family spot has is
+    ∙ allows_in-estate lists (folding_of lists) (workload_number lists p) (workload_number lists q) family spot has is
     ∙ sym (between_pods-pair_allows lists p q family spot lawful p_in q_in differ)

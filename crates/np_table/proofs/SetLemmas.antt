@@ -1,7 +1,7 @@
 -- Sets of connections, and the rows of them. For `Rows::next`, `add_row` and 7 more.
 use Rattle.std.proofs.Common.{◌≡◌, ◌≢◌, ℕ, List, [], ◌∷◌, ◌++◌, Bool, true, false, not, Option, None, Some, Result, Ok, Err, IfOk, OnErr, OnOk, length, get_or, arith, refl, sym, ◌∙◌, subst}
 use Rattle.std.proofs.lemmas.Bool.{and_from, both_ways, false_from_ne_true, or_left, true≢false}
-use Rattle.np_table.specs.Prelude.{Family, Four, PortSpot, Range, RowKey, Sctp, Six, Tcp, Udp, is_none, is_nothing, row_if, rows_in, rows_of_both}
+use Rattle.np_table.specs.Prelude.{Family, Four, PortSpot, Range, RowKey, Sctp, Six, Tcp, Udp, has_no_range, is_nothing, row_if, rows_in, rows_of_both}
 use Rattle.np_base.proofs.Ranges.{is_within-inside}
 use Rattle.np_base.specs.Ranges.{holds, IsAscending}
 use Rattle.np_conns.specs.Prelude.{Conns, IsConns, are_same_conns, has_spot}
@@ -10,7 +10,7 @@ use Rattle.np_conns.proofs.ConnLemmas.{are_same_conns-Decides}
 -- ---- rows
 
 -- ranges that hold no number are none
-is_none-holds : (from : ℕ) (ranges : List (Range ℕ)) → IsAscending (λ port. port) from 65535 ranges → ((port : ℕ) → holds (λ p. p) ranges port ≡ false) → is_none ranges ≡ true
+is_none-holds : (from : ℕ) (ranges : List (Range ℕ)) → IsAscending (λ port. port) from 65535 ranges → ((port : ℕ) → holds (λ p. p) ranges port ≡ false) → has_no_range ranges ≡ true
 is_none-holds from [] ascends none = refl
 is_none-holds from (range ∷ ranges) ascends none =
     absurd (both_ways _ (none range.lo) (or_left _ _ (is_within-inside (λ p. p) range range.lo (omega arith) ascends.1)))

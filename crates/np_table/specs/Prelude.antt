@@ -4,7 +4,7 @@ pub use Rattle.np_table.specs.Right.{AreRight, IsNext, IsRight, Stretch, is_with
 unfoldable pub use Rattle.np_table.specs.Right.{walk}
 pub use Rattle.np_table.specs.RowCache.{CachesAlso, CachesTheSame, cached_at, cached_count, cached_of, row_with}
 unfoldable pub use Rattle.np_table.specs.RowCache.{IsCached}
-pub use Rattle.np_table.specs.Rows.{address_row, all_rows, four_of, is_none, is_nothing, key_of, pair_key, row_if, row_of, rows_in, rows_of_addresses, rows_of_both, rows_towards, six_of, workloads}
+pub use Rattle.np_table.specs.Rows.{address_row, all_rows, four_of, has_no_range, is_nothing, key_of, pair_key, row_if, row_of, rows_in, rows_of_addresses, rows_of_both, rows_towards, six_of, workloads}
 unfoldable pub use Rattle.np_table.specs.Rows.{address_rows, all_address_rows, all_pair_rows, pair_rows}
 pub use Rattle.np_table.specs.Said.{AllowSamePorts, IsInFamily, IsUnmarked, OneRowSays, allows_in, is_address, is_between, is_of_address, is_workload, rows_between, rows_of_address, says, span_has, speaks_of}
 pub use Rattle.np_table.specs.Table.{Table, estate_table}

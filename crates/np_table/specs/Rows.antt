@@ -10,13 +10,13 @@ use Rattle.np_table.specs.declared.rows.AddressSpan.TheVariants as span
 
 -- ---- pair rows
 
-abbrev pub is_none : {X : Type 0} → List X → Bool
-is_none [] = true
-is_none (x ∷ xs) = false
+abbrev pub has_no_range : {X : Type 0} → List X → Bool
+has_no_range [] = true
+has_no_range (x ∷ xs) = false
 
 -- whether no port of any protocol passes
 abbrev pub is_nothing : Conns → Bool
-is_nothing conns = is_none conns.tcp && is_none conns.udp && is_none conns.sctp
+is_nothing conns = has_no_range conns.tcp && has_no_range conns.udp && has_no_range conns.sctp
 
 -- the row of some connections, where there are any
 abbrev pub row_if : RowKey → Option Family → Conns → List Row

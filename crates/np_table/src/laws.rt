@@ -7,7 +7,7 @@ ghost use Rattle.np_conns.specs.Prelude.{are_same_conns, conns_of, is_spot};
 ghost use Rattle.np_conns.specs.declared.port_spot.PortSpot.{PortSpot};
 ghost use Rattle.np_model.specs.Prelude.{IsLawful, families_of};
 ghost use Rattle.np_model.specs.declared.lists.EstateLists.{EstateLists};
-ghost use Rattle.np_fold.specs.Prelude.{Folding, folding_of, kinds_alike, members_of, number_of, workload_count};
+ghost use Rattle.np_fold.specs.Prelude.{Folding, folding_of, kinds_alike, members_of, workload_count, workload_number};
 ghost use Rattle.np_model.specs.declared.direction.Direction.{Direction};
 ghost use Rattle.np_table.specs.Prelude.{AllowSamePorts, IsInFamily, IsUnmarked, OneRowSays, Table, all_rows, allows_in, pair_rows, rows_between, table_of};
 ghost use Rattle.np_rules.specs.Prelude.{pod, pod_at};
@@ -19,11 +19,11 @@ pub fn workloads_stand_for_their_pods()
     ensures pairs { (lists : EstateLists) (p q : ℕ) (family : Family) (spot : PortSpot) → IsLawful lists →
         p < length lists.pods → q < length lists.pods → p ≢ q →
         between_pods lists p q family spot
-        ≡ pair_allows lists (folding_of lists) (number_of lists p) (number_of lists q) family spot }
+        ≡ pair_allows lists (folding_of lists) (workload_number lists p) (workload_number lists q) family spot }
     ensures addresses { (lists : EstateLists) (p : ℕ) (direction : Direction) (family : Family) (number : ℕ) (spot : PortSpot) →
         IsLawful lists → p < length lists.pods →
         with_address lists direction (pod (pod_at lists p)) family number spot
-        ≡ address_allows lists (folding_of lists) (number_of lists p) direction family number spot }
+        ≡ address_allows lists (folding_of lists) (workload_number lists p) direction family number spot }
 {}
 
 /// What passes between two workloads depends on their kinds alone, where neither pair is a workload of one pod with itself.
@@ -49,7 +49,7 @@ pub fn rows_say_what_passes()
     ensures pods { (lists : EstateLists) (p q : ℕ) (family : Family) (spot : PortSpot) → IsLawful lists →
         p < length lists.pods → q < length lists.pods → p ≢ q →
         Contains (families_of lists.pods) family → is_spot spot ≡ true →
-        allows_in (rows_between (number_of lists p) (number_of lists q)
+        allows_in (rows_between (workload_number lists p) (workload_number lists q)
         (all_rows (table_of lists (folding_of lists)))) family spot
         ≡ between_pods lists p q family spot }
 {}
@@ -79,7 +79,7 @@ pub fn one_row_for_each_address()
         (table.addresses workload direction family number) }
     ensures pods { (lists : EstateLists) (p : ℕ) (direction : Direction) (family : Family) (number : ℕ) → IsLawful lists →
         p < length lists.pods → IsInFamily family number →
-        OneRowSays (number_of lists p) direction family number (all_rows (table_of lists (folding_of lists)))
+        OneRowSays (workload_number lists p) direction family number (all_rows (table_of lists (folding_of lists)))
         (with_address lists direction (pod (pod_at lists p)) family number) }
 {}
 

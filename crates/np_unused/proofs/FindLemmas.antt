@@ -7,7 +7,7 @@ use Rattle.std.proofs.lemmas.Bool.Decides.{eqb_tells, nat_tests}
 use Rattle.std.proofs.lemmas.Option.{same_Some}
 use Rattle.np_addr.specs.Prelude.{IsAddress, family_of}
 use Rattle.np_addr.specs.declared.address.Address.{Address}
-use Rattle.np_unused.specs.Prelude.{AllAreUsed, AreKindPods, AreUsed, At, Direction, End, EstateLists, Family, Finds, Four, IsListed, IsSound, KindPod, Knows, KnowsPods, KnowsSide, KnowsSides, Pod, PodsAreUsed, PortSpot, Six, Tier, UsedRules, families_between, is_asked, is_known, is_used, pod_kind, ref_of, rule_count_at, stands_in}
+use Rattle.np_unused.specs.Prelude.{AllAreUsed, AreKindPods, AreUsed, At, Direction, End, EstateLists, Family, Finds, Four, IsListedEnd, IsSound, KindPod, Knows, KnowsPods, KnowsSide, KnowsSides, Pod, PodsAreUsed, PortSpot, Six, Tier, UsedRules, is_asked, is_known, is_used, packet_families, pod_kind, ref_of, rule_count_at, stands_in}
 use Rattle.np_base.specs.declared.beside.Which.TheVariants.{First, Second}
 use Rattle.np_conns.specs.Prelude.{is_spot}
 use Rattle.np_model.specs.Prelude.{IsLawful, families_of}
@@ -149,8 +149,8 @@ module _ (lists : EstateLists) (lawful : IsLawful lists) (kinds : List KindPod) 
         family_is : (a : Address) (family : Family) → Contains (family_of a ∷ []) family → family ≡ family_of a
         family_is a family has = one_gives (family_of a) family has.0 has.1 has.2
 
-        go : (p : ℕ) (far : End) (family : Family) (spot : PortSpot) → p < length lists.pods → IsListed lists far → are_one_pod (Pod p) far ≡ false →
-            Contains (families_between lists (Pod p) far) family → is_spot spot ≡ true →
+        go : (p : ℕ) (far : End) (family : Family) (spot : PortSpot) → p < length lists.pods → IsListedEnd lists far → are_one_pod (Pod p) far ≡ false →
+            Contains (packet_families lists (Pod p) far) family → is_spot spot ≡ true →
             stands_in lists (ref_of direction tier policy number) (decider_near lists direction (Pod p) far family spot) ≡ true → is_known used tier policy number ≡ true
         go p (Pod q) family spot near_in far_in apart of_family inside stands = with_peer p q family spot near_in far_in apart of_family inside stands
         go p (At a) family spot near_in far_in apart of_family inside stands = with_address p a family spot near_in far_in (family_is a family of_family) inside stands

@@ -8,8 +8,8 @@ use Rattle.np_classes.specs.Classes.{class_of}
 use Rattle.np_model.specs.Prelude.{IsLawful}
 use Rattle.np_fold.proofs.AlikeLemmas.{kinds-are}
 use Rattle.np_fold.proofs.WorkloadLemmas.{number-in_workloads, one_workload}
-use Rattle.np_fold.specs.Prelude.{folding_of, kinds_alike, number_of, workload_count}
-use Rattle.np_rules.specs.Prelude.{End, contact, decider, pod, pod_at}
+use Rattle.np_fold.specs.Prelude.{folding_of, kinds_alike, workload_count, workload_number}
+use Rattle.np_rules.specs.Prelude.{ModelEnd, contact, decider, pod, pod_at}
 use Rattle.np_kinds.proofs.KindNumbers.{first_pod-there, firsts-workloads, kinds-by}
 use Rattle.np_kinds.proofs.KindVerdicts.{SameKindEnd-ends, got-same, sent-same}
 use Rattle.np_kinds.proofs.MemberLemmas.{member-number, members-some, source-member}
@@ -20,23 +20,23 @@ use Rattle.np_kinds.specs.Prelude.{AreOneKind, source_pod}
 
 -- what decides is the same with the one and with the other, at either end
 pub record StandsFor (lists : EstateLists) (p q : ℕ) : Type 0 where
-  pub near : (direction : Direction) (far : End) (family : Family) (spot : PortSpot) →
+  pub near : (direction : Direction) (far : ModelEnd) (family : Family) (spot : PortSpot) →
       decider lists direction (pod (pod_at lists p)) (contact direction (pod (pod_at lists p)) far family spot) ≡ decider lists direction (pod (pod_at lists q))
       (contact direction (pod (pod_at lists q)) far family spot)
-  pub far : (direction : Direction) (near_end : End) (family : Family) (spot : PortSpot) →
+  pub far : (direction : Direction) (near_end : ModelEnd) (family : Family) (spot : PortSpot) →
       decider lists direction near_end (contact direction near_end (pod (pod_at lists p)) family spot) ≡ decider lists direction near_end
       (contact direction near_end (pod (pod_at lists q)) family spot)
 
 of_one_kind : (lists : EstateLists) (p q : ℕ) → AreOneKind lists (pod (pod_at lists p)) (pod (pod_at lists q)) → StandsFor lists p q
 of_one_kind lists p q kind = record { near = near_same; far = far_same }
   where
-    near_same : (direction : Direction) (far : End) (family : Family) (spot : PortSpot) →
+    near_same : (direction : Direction) (far : ModelEnd) (family : Family) (spot : PortSpot) →
         decider lists direction (pod (pod_at lists p)) (contact direction (pod (pod_at lists p)) far family spot) ≡ decider lists direction (pod (pod_at lists q))
         (contact direction (pod (pod_at lists q)) far family spot)
     near_same Egress far family spot = sent-same lists family spot (pod (pod_at lists p)) (pod (pod_at lists q)) far far (SameKindEnd-ends lists _ _ kind) (SameKindEnd-ends lists far far (inr refl))
     near_same Ingress far family spot = got-same lists family spot far far (pod (pod_at lists p)) (pod (pod_at lists q)) (SameKindEnd-ends lists far far (inr refl)) (SameKindEnd-ends lists _ _ kind)
 
-    far_same : (direction : Direction) (near : End) (family : Family) (spot : PortSpot) →
+    far_same : (direction : Direction) (near : ModelEnd) (family : Family) (spot : PortSpot) →
         decider lists direction near (contact direction near (pod (pod_at lists p)) family spot) ≡ decider lists direction near (contact direction near (pod (pod_at lists q)) family spot)
     far_same Egress near family spot = sent-same lists family spot near near (pod (pod_at lists p)) (pod (pod_at lists q)) (SameKindEnd-ends lists near near (inr refl))
         (SameKindEnd-ends lists _ _ kind)
@@ -51,11 +51,11 @@ onward lists p q r one other = record {
 
 -- ---- kinds of pods
 
-pub number_is : (lists : EstateLists) (p : ℕ) → p < length lists.pods → slice_index (folding_of lists).numbers p ≡ number_of lists p
+pub number_is : (lists : EstateLists) (p : ℕ) → p < length lists.pods → slice_index (folding_of lists).numbers p ≡ workload_number lists p
 unfolding folding_of
-number_is lists p within = get_or-map-range_with_len (number_of lists) 0 (length lists.pods) p p 0 within (omega arith)
+number_is lists p within = get_or-map-range_with_len (workload_number lists) 0 (length lists.pods) p p 0 within (omega arith)
 
-pub number_within : (lists : EstateLists) (p : ℕ) → p < length lists.pods → number_of lists p < length (folding_of lists).workloads
+pub number_within : (lists : EstateLists) (p : ℕ) → p < length lists.pods → workload_number lists p < length (folding_of lists).workloads
 unfolding folding_of
 number_within lists p within = number-in_workloads lists p within
 
@@ -75,22 +75,22 @@ kind_of_first lists kind first is = class_of_first (kinds_alike lists) (workload
 
 -- the kind of a pod is that of its workload
 kind_by_number : (lists : EstateLists) (p : ℕ) → p < length lists.pods →
-    (number_of lists p < workload_count lists) × (pod_kind lists p ≡ class_of (kinds_alike lists) (workload_count lists) (number_of lists p))
+    (workload_number lists p < workload_count lists) × (pod_kind lists p ≡ class_of (kinds_alike lists) (workload_count lists) (workload_number lists p))
 kind_by_number lists p within =
-    let kind = kinds-by lists (number_of lists p) (number_within lists p within) in
+    let kind = kinds-by lists (workload_number lists p) (number_within lists p within) in
     (kind.0, ap (slice_index (folding_of lists).kinds) (number_is lists p within) ∙ kind.2)
 
 -- each pod is of one of the kinds
 pub kind_within : (lists : EstateLists) (p : ℕ) → p < length lists.pods → pod_kind lists p < length (folding_of lists).first_of_kinds
 kind_within lists p within =
     let by = kind_by_number lists p within in
-    let first = kind_first lists (number_of lists p) by.0 in
+    let first = kind_first lists (workload_number lists p) by.0 in
     slice_get_within (folding_of lists).first_of_kinds (pod_kind lists p) first.0 (ap (slice_get (folding_of lists).first_of_kinds) by.1 ∙ first.1)
 
 -- a pod and the first of its workload
-first_stands : (lists : EstateLists) (p : ℕ) → IsLawful lists → p < length lists.pods → StandsFor lists p (source_pod (folding_of lists) (number_of lists p))
+first_stands : (lists : EstateLists) (p : ℕ) → IsLawful lists → p < length lists.pods → StandsFor lists p (source_pod (folding_of lists) (workload_number lists p))
 first_stands lists p lawful within =
-    let number = number_of lists p in
+    let number = workload_number lists p in
     let here = number_within lists p within in
     let near = source_pod (folding_of lists) number in
     let near_in = source-within lists number (kind_by_number lists p within).0 in
@@ -103,7 +103,7 @@ module _ (lists : EstateLists) (lawful : IsLawful lists) (kinds : List KindPod) 
   -- the pod of its kind stands for each pod
   pub kind_pod : (p : ℕ) → p < length lists.pods → (one : KindPod) × (slice_get kinds (pod_kind lists p) ≡ Some one) × StandsFor lists p one.pod
   kind_pod p within =
-      let number = number_of lists p in
+      let number = workload_number lists p in
       let kind = pod_kind lists p in
       let by = kind_by_number lists p within in
       let first = kind_first lists number by.0 in
@@ -130,7 +130,7 @@ module _ (lists : EstateLists) (lawful : IsLawful lists) (kinds : List KindPod) 
       let near = source_pod (folding_of lists) first in
       let near_in = source-within lists first low in
       let near_has = source-member (folding_of lists) first (members-some lists (folding_of lists) first refl workload) in
-      let own : number_of lists near ≡ first = member-number lists first near near_in near_has in
+      let own : workload_number lists near ≡ first = member-number lists first near near_in near_has in
       let kind_is : pod_kind lists near ≡ kind = (kind_by_number lists near near_in).1 ∙ ap (class_of (kinds_alike lists) (workload_count lists)) own ∙ kind_of_first lists kind first there in
       let pod_is : one.pod ≡ near = (are.each kind one at).pod in
       (subst (λ (n : ℕ). n < length lists.pods) (sym pod_is) near_in, ap (pod_kind lists) pod_is ∙ kind_is)

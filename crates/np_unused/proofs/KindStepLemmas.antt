@@ -6,7 +6,7 @@ use Rattle.std.proofs.lemmas.List.FromFn.{length-map-range_with_len}
 use Rattle.std.proofs.lemmas.Option.{none-some, same_Some, slice_get_past, slice_get_within}
 use Rattle.np_base.proofs.Lists.{slice_get-push_other, slice_get-push_same}
 use Rattle.np_unused.specs.Prelude.{AreKindPods, AreKindPodsOf, EstateLists, IsKindPodOf, KindPod, pod_kind}
-use Rattle.np_fold.specs.Prelude.{folding_of, number_of}
+use Rattle.np_fold.specs.Prelude.{folding_of, workload_number}
 use Rattle.np_unused.proofs.FlagLemmas.{get-set_other, get-set_same}
 use Rattle.np_unused.proofs.KindPodLemmas.{kind_within, number_is, number_within}
 use Rattle.np_kinds.proofs.KindNumbers.{firsts-workloads, kind-there}
@@ -15,13 +15,13 @@ use Rattle.np_kinds.proofs.KindNumbers.{firsts-workloads, kind-there}
 
 numbers_count : (lists : EstateLists) → length (folding_of lists).numbers ≡ length lists.pods
 unfolding folding_of
-numbers_count lists = length-map-range_with_len (number_of lists) 0 (length lists.pods)
+numbers_count lists = length-map-range_with_len (workload_number lists) 0 (length lists.pods)
 
 pub number_there : (lists : EstateLists) (place : ℕ) → place < length lists.pods → place < length (folding_of lists).numbers
 number_there lists place within = rw (numbers_count lists) within
 
 pub kind_there : (lists : EstateLists) (place : ℕ) → place < length lists.pods → slice_index (folding_of lists).numbers place < length (folding_of lists).kinds
-kind_there lists place within = rw (number_is lists place within) (kind-there lists (folding_of lists) (number_of lists place) refl (number_within lists place within))
+kind_there lists place within = rw (number_is lists place within) (kind-there lists (folding_of lists) (workload_number lists place) refl (number_within lists place within))
 
 -- ---- one pod more is looked at
 

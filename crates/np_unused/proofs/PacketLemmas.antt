@@ -6,7 +6,7 @@ use Rattle.std.proofs.lemmas.Bool.Decides.{nat_tests}
 use Rattle.std.proofs.lemmas.List.Elements.{All-append, All-contains, Contains-append_left, Contains-append_right}
 use Rattle.std.proofs.lemmas.List.Folds.{Any-from_list_any, list_any_at}
 use Rattle.std.proofs.lemmas.List.FromFn.{get_or-map-range_with_len, length-map-range_with_len}
-use Rattle.np_unused.specs.Prelude.{At, Direction, Egress, End, EstateLists, Family, Four, Ingress, IsListed, IsListedPacket, NoSide, Pod, PortSpot, RuleRef, Six, Tier, families_between, four_ends, is_used, is_used_between, is_used_in, listed_ends, pod_ends, ref_of, six_ends, stands_in}
+use Rattle.np_unused.specs.Prelude.{At, Direction, Egress, End, EstateLists, Family, Four, Ingress, IsListedEnd, IsListedPacket, NoSide, Pod, PortSpot, RuleRef, Six, Tier, four_ends, is_used, is_used_between, is_used_in, listed_ends, packet_families, pod_ends, ref_of, six_ends, stands_in}
 use Rattle.np_conns.specs.Prelude.{is_spot}
 use Rattle.np_explain.proofs.SpotLemmas.{all_spots-are_spots, all_spots-has}
 use Rattle.np_explain.specs.Prelude.{all_spots, are_one_pod, decider_between, decider_near}
@@ -31,24 +31,24 @@ numbered_has : (f : ℕ → End) (count n : ℕ) → n < count → Contains (map
 numbered_has f count n below = (n, omega (arith, length-map-range_with_len f 0 count), get_or-map-range_with_len f 0 count n n (f n) below (omega arith))
 
 module _ (lists : EstateLists) where
-  pods_listed : All (IsListed lists) (pod_ends (length lists.pods))
+  pods_listed : All (IsListedEnd lists) (pod_ends (length lists.pods))
   unfolding pod_ends
-  pods_listed = numbered_all (IsListed lists) Pod (length lists.pods) (λ n below. below)
+  pods_listed = numbered_all (IsListedEnd lists) Pod (length lists.pods) (λ n below. below)
 
-  fours_listed : All (IsListed lists) (four_ends (2 ^ 32))
+  fours_listed : All (IsListedEnd lists) (four_ends (2 ^ 32))
   unfolding four_ends
-  fours_listed = numbered_all (IsListed lists) (λ n. At (Four n)) (2 ^ 32) (λ n below. below)
+  fours_listed = numbered_all (IsListedEnd lists) (λ n. At (Four n)) (2 ^ 32) (λ n below. below)
 
-  sixes_listed : All (IsListed lists) (six_ends (2 ^ 128))
+  sixes_listed : All (IsListedEnd lists) (six_ends (2 ^ 128))
   unfolding six_ends
-  sixes_listed = numbered_all (IsListed lists) (λ n. At (Six n)) (2 ^ 128) (λ n below. below)
+  sixes_listed = numbered_all (IsListedEnd lists) (λ n. At (Six n)) (2 ^ 128) (λ n below. below)
 
-  ends_are_listed : (end : End) → Contains (listed_ends lists) end → IsListed lists end
+  ends_are_listed : (end : End) → Contains (listed_ends lists) end → IsListedEnd lists end
   unfolding listed_ends
   ends_are_listed end has =
-      All-contains (IsListed lists) (pod_ends (length lists.pods) ++ four_ends (2 ^ 32) ++ six_ends (2 ^ 128)) end
-      (All-append (IsListed lists) (pod_ends (length lists.pods) ++ four_ends (2 ^ 32)) (six_ends (2 ^ 128))
-      (All-append (IsListed lists) (pod_ends (length lists.pods)) (four_ends (2 ^ 32)) pods_listed fours_listed) sixes_listed)
+      All-contains (IsListedEnd lists) (pod_ends (length lists.pods) ++ four_ends (2 ^ 32) ++ six_ends (2 ^ 128)) end
+      (All-append (IsListedEnd lists) (pod_ends (length lists.pods) ++ four_ends (2 ^ 32)) (six_ends (2 ^ 128))
+      (All-append (IsListedEnd lists) (pod_ends (length lists.pods)) (four_ends (2 ^ 32)) pods_listed fours_listed) sixes_listed)
       has
 
   has_pod : (p : ℕ) → p < length lists.pods → Contains (pod_ends (length lists.pods)) (Pod p)
@@ -63,7 +63,7 @@ module _ (lists : EstateLists) where
   unfolding six_ends
   has_six n below = numbered_has (λ m. At (Six m)) (2 ^ 128) n below
 
-  listed_is_end : (end : End) → IsListed lists end → Contains (listed_ends lists) end
+  listed_is_end : (end : End) → IsListedEnd lists end → Contains (listed_ends lists) end
   unfolding listed_ends
   listed_is_end (Pod p) below = Contains-append_left (pod_ends (length lists.pods) ++ four_ends (2 ^ 32)) (six_ends (2 ^ 128)) (Pod p)
       (Contains-append_left (pod_ends (length lists.pods)) (four_ends (2 ^ 32)) (Pod p) (has_pod p below))
@@ -88,8 +88,8 @@ used_by lists rule used =
     let ends = listed_ends lists in
     let s = any_gives (λ source. list_any (is_used_between lists rule source) ends) ends used in
     let d = any_gives (is_used_between lists rule s.0) ends s.2 in
-    let parts = and_parts (not (are_one_pod s.0 d.0)) (list_any (is_used_in lists rule s.0 d.0) (families_between lists s.0 d.0)) d.2 in
-    let f = any_gives (is_used_in lists rule s.0 d.0) (families_between lists s.0 d.0) parts.1 in
+    let parts = and_parts (not (are_one_pod s.0 d.0)) (list_any (is_used_in lists rule s.0 d.0) (packet_families lists s.0 d.0)) d.2 in
+    let f = any_gives (is_used_in lists rule s.0 d.0) (packet_families lists s.0 d.0) parts.1 in
     let at = any_gives (λ spot. stands_in lists rule (decider_between lists rule.direction s.0 d.0 f.0 spot)) all_spots f.2 in
     record {
       from = s.0;
@@ -112,7 +112,7 @@ is_used_by lists rule source destination family spot listed stands =
     any_of (λ s. list_any (is_used_between lists rule s) ends) ends source (listed_is_end lists source listed.source)
     (any_of (is_used_between lists rule source) ends destination (listed_is_end lists destination listed.destination)
     (and_from (not (are_one_pod source destination)) _ (not_false (are_one_pod source destination) listed.apart)
-    (any_of (is_used_in lists rule source destination) (families_between lists source destination) family listed.of_family
+    (any_of (is_used_in lists rule source destination) (packet_families lists source destination) family listed.of_family
     (any_of (λ at. stands_in lists rule (decider_between lists rule.direction source destination family at)) all_spots spot (all_spots-has spot listed.at_spot) stands))))
 
 -- ---- by the near end
@@ -126,17 +126,17 @@ one_pod_flips (Pod p) (At a) apart = refl
 one_pod_flips (At a) (Pod q) apart = refl
 one_pod_flips (At a) (At b) apart = refl
 
-families_flip : (lists : EstateLists) (p : ℕ) (far : End) (family : Family) → Contains (families_between lists (Pod p) far) family → Contains (families_between lists far (Pod p)) family
+families_flip : (lists : EstateLists) (p : ℕ) (far : End) (family : Family) → Contains (packet_families lists (Pod p) far) family → Contains (packet_families lists far (Pod p)) family
 families_flip lists p (Pod q) family has = has
 families_flip lists p (At a) family has = has
 
-families_back : (lists : EstateLists) (p : ℕ) (far : End) (family : Family) → Contains (families_between lists far (Pod p)) family → Contains (families_between lists (Pod p) far) family
+families_back : (lists : EstateLists) (p : ℕ) (far : End) (family : Family) → Contains (packet_families lists far (Pod p)) family → Contains (packet_families lists (Pod p) far) family
 families_back lists p (Pod q) family has = has
 families_back lists p (At a) family has = has
 
 -- what decides at a pod, in packets with a listed far end, is used
-pub used_near : (lists : EstateLists) (direction : Direction) (one : Tier) (policy place p : ℕ) (far : End) (family : Family) (spot : PortSpot) → p < length lists.pods → IsListed lists far →
-    are_one_pod (Pod p) far ≡ false → Contains (families_between lists (Pod p) far) family → is_spot spot ≡ true →
+pub used_near : (lists : EstateLists) (direction : Direction) (one : Tier) (policy place p : ℕ) (far : End) (family : Family) (spot : PortSpot) → p < length lists.pods → IsListedEnd lists far →
+    are_one_pod (Pod p) far ≡ false → Contains (packet_families lists (Pod p) far) family → is_spot spot ≡ true →
     stands_in lists (ref_of direction one policy place) (decider_near lists direction (Pod p) far family spot) ≡ true → is_used lists (ref_of direction one policy place) ≡ true
 used_near lists Egress one policy place p far family spot near_in far_in apart of_family at stands =
     is_used_by lists (ref_of Egress one policy place) (Pod p) far family spot (record { source = near_in; destination = far_in; apart = apart; of_family = of_family; at_spot = at }) stands
@@ -151,9 +151,9 @@ pub record UsedNear (lists : EstateLists) (direction : Direction) (one : Tier) (
   pub family : Family
   pub spot : PortSpot
   pub near_in : pod < length lists.pods
-  pub far_in : IsListed lists far
+  pub far_in : IsListedEnd lists far
   pub apart : are_one_pod (Pod pod) far ≡ false
-  pub of_family : Contains (families_between lists (Pod pod) far) family
+  pub of_family : Contains (packet_families lists (Pod pod) far) family
   pub at_spot : is_spot spot ≡ true
   pub stands : stands_in lists (ref_of direction one policy place) (decider_near lists direction (Pod pod) far family spot) ≡ true
 

@@ -7,7 +7,7 @@ use Rattle.std.proofs.lemmas.Bool.{and_parts, cases_order, false≢true, not-tru
 use Rattle.std.proofs.lemmas.Cmp.{nat_list_cmp_total, tied_itself}
 use Rattle.std.proofs.lemmas.Option.{get_or_from_slice_get, slice_get_within}
 use Rattle.std.proofs.lemmas.Slice.Eq.{bytes_eq-Decides}
-use Rattle.np_model.specs.Prelude.{AreNamesApart, IsLawful, StandsBefore, comes_before, is_name, is_well, is_well_net_policy}
+use Rattle.np_model.specs.Prelude.{AreNamesApart, IsLawful, PolicyStandsBefore, decides_before, is_name, is_well, is_well_net_policy}
 use Rattle.np_unused.specs.Prelude.{AdminPolicy, EstateLists, NetPolicy}
 use Rattle.np_rules.specs.Prelude.{net_policy_name}
 
@@ -79,13 +79,13 @@ net_policies_well lists well = (and_parts _ _ (and_parts _ _ (and_parts _ _ (and
 abbrev full_name : NetPolicy → List ℕ × List ℕ
 full_name policy = (policy.namespace, policy.name)
 
-not_before : (a b : NetPolicy) → StandsBefore a b → full_name a ≡ full_name b → ⊥
+not_before : (a b : NetPolicy) → PolicyStandsBefore a b → full_name a ≡ full_name b → ⊥
 not_before a b before same =
     let spaces : a.namespace ≡ b.namespace = ap (λ (p : List ℕ × List ℕ). p.0) same in
     let names : a.name ≡ b.name = ap (λ (p : List ℕ × List ℕ). p.1) same in
     let equal : slice_cmp nat_cmp a.namespace b.namespace ≡ Equal = ap (slice_cmp nat_cmp a.namespace) (sym spaces) ∙ tied_itself nat_list_cmp_total a.namespace in
     let equal' : slice_cmp nat_cmp a.name b.name ≡ Equal = ap (slice_cmp nat_cmp a.name) (sym names) ∙ tied_itself nat_list_cmp_total a.name in
-    false≢true (sym (ap (λ (o : Ordering). comes_before o (slice_cmp nat_cmp a.name b.name)) equal ∙ ap (comes_before Equal) equal') ∙ before)
+    false≢true (sym (ap (λ (o : Ordering). decides_before o (slice_cmp nat_cmp a.name b.name)) equal ∙ ap (decides_before Equal) equal') ∙ before)
 
 pub one_net_policy : (lists : EstateLists) → IsLawful lists → (p q : ℕ) (a b : NetPolicy) → slice_get lists.net_policies p ≡ Some a → slice_get lists.net_policies q ≡ Some b →
     net_policy_name a ≡ net_policy_name b → p ≡ q

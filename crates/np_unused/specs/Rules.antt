@@ -71,5 +71,5 @@ tier_text Net = codes "NetworkPolicy"
 tier_text Base = codes "BaselineAdminNetworkPolicy"
 
 -- `AdminNetworkPolicy name ingress[n]`
-unfoldable pub rule_text : EstateLists → RuleRef → List ℕ
-rule_text lists rule = tier_text rule.tier ++ codes " " ++ explain.rule_text rule.direction (rule_name lists rule)
+unfoldable pub tier_rule_text : EstateLists → RuleRef → List ℕ
+tier_rule_text lists rule = tier_text rule.tier ++ codes " " ++ explain.rule_text rule.direction (rule_name lists rule)

@@ -59,10 +59,10 @@ listed_ends lists = pod_ends (length lists.pods) ++ four_ends (2 ^ 32) ++ six_en
 
 -- The families of the packets between two ends: that of the end that is an address, and of the source where both are;
 -- between pods those of the estate.
-abbrev pub families_between : EstateLists → End → End → List Family
-families_between lists (At a) destination = family_of a ∷ []
-families_between lists (Pod p) (At a) = family_of a ∷ []
-families_between lists (Pod p) (Pod q) = families_of lists.pods
+abbrev pub packet_families : EstateLists → End → End → List Family
+packet_families lists (At a) destination = family_of a ∷ []
+packet_families lists (Pod p) (At a) = family_of a ∷ []
+packet_families lists (Pod p) (Pod q) = families_of lists.pods
 
 -- ---- use
 
@@ -72,7 +72,7 @@ is_used_in lists rule source destination family = list_any (λ spot. stands_in l
 
 -- whether it does of some packet between two ends, which are not one pod
 abbrev pub is_used_between : EstateLists → RuleRef → End → End → Bool
-is_used_between lists rule source destination = not (are_one_pod source destination) && list_any (is_used_in lists rule source destination) (families_between lists source destination)
+is_used_between lists rule source destination = not (are_one_pod source destination) && list_any (is_used_in lists rule source destination) (packet_families lists source destination)
 
 -- whether it does of some packet between listed ends
 unfoldable pub is_used : EstateLists → RuleRef → Bool
@@ -85,16 +85,16 @@ unused_of lists = filter (λ rule. not (is_used lists rule)) (all_rules lists)
 -- ---- packets
 
 -- the end is a pod of the estate, or an address
-abbrev pub IsListed : EstateLists → End → Type 0
-IsListed lists (Pod p) = p < length lists.pods
-IsListed lists (At a) = IsAddress a
+abbrev pub IsListedEnd : EstateLists → End → Type 0
+IsListedEnd lists (Pod p) = p < length lists.pods
+IsListedEnd lists (At a) = IsAddress a
 
 -- a packet between listed ends, by its ends, its family, and its protocol and port
 pub record IsListedPacket (lists : EstateLists) (from to : End) (family : Family) (spot : PortSpot) : Type 0 where
-  pub source : IsListed lists from
-  pub destination : IsListed lists to
+  pub source : IsListedEnd lists from
+  pub destination : IsListedEnd lists to
   pub apart : are_one_pod from to ≡ false
-  pub of_family : Contains (families_between lists from to) family
+  pub of_family : Contains (packet_families lists from to) family
   pub at_spot : is_spot spot ≡ true
 
 -- a rule stands in the decider, on its side, of the packet

@@ -1,6 +1,6 @@
 //! The text of a rule.
 ghost use Rattle.std.specs.Prelude.{◌≡◌, ◌<◌, IfOk};
-ghost use Rattle.np_unused.specs.Prelude.{IsRuleOf, policy_name_at, rule_count_at, rule_text, tier_text};
+ghost use Rattle.np_unused.specs.Prelude.{IsRuleOf, policy_name_at, rule_count_at, tier_rule_text, tier_text};
 
 use crate::rule_ref::{RuleRef, Tier};
 use np_base::{NoMemory, Text};
@@ -10,10 +10,10 @@ use std::alloc::Global;
 
 /// A rule, as it is printed, with `ingress` or `egress` for `d` and its place for `n`: `AdminNetworkPolicy name d[n]`,
 /// `NetworkPolicy namespace/name d[n]` or `BaselineAdminNetworkPolicy default d[n]`. The rule is one of the estate.
-#[tactic(auto, unfolding(crate::specs::Rules::rule_text))]
+#[tactic(auto, unfolding(crate::specs::Rules::tier_rule_text))]
 pub fn print_rule(alloc: Global, estate: &Estate, rule: &RuleRef) -> Result<Text, NoMemory>
     requires { IsRuleOf estate.now rule.now }
-    ensures { IfOk result (λ text. text ≡ rule_text estate.now rule.now) }
+    ensures { IfOk result (λ text. text ≡ tier_rule_text estate.now rule.now) }
 {
     let tier = tier_text(rule.tier);
     let policy = policy_name(alloc, estate, rule)?;

@@ -3,7 +3,7 @@ use Rattle.std.specs.Prelude.{ℕ, List, [], ◌∷◌, Bool, Option, None, Some
 use Rattle.np_addr.specs.Prelude.{AddressRanges, family_of}
 use Rattle.np_check.specs.Types.{Address, BreakingAddress, Counterexample, Family, Four, PortSpot, Range, Six, Wanted}
 use Rattle.np_check.specs.Counterexamples.{addresses_of, breaks, number_of_address}
-use Rattle.np_check.specs.Firsts.{first_of, first_spot}
+use Rattle.np_check.specs.Firsts.{first_given, first_spot}
 use Rattle.np_check.specs.Order.{comes_before}
 use Rattle.np_conns.specs.Prelude.{Conns, has_spot}
 use Rattle.np_table.specs.declared.rows.AddressRow.{AddressRow}
@@ -18,7 +18,7 @@ broken_at wanted conns passes address =
 
 -- the first of those with the addresses of a set
 unfoldable pub first_broken_of : Wanted → Conns → AddressRanges → (Family → ℕ → PortSpot → Bool) → Option BreakingAddress
-first_broken_of wanted conns block passes = first_of (broken_at wanted conns passes) (addresses_of block)
+first_broken_of wanted conns block passes = first_given (broken_at wanted conns passes) (addresses_of block)
 
 -- ---- range by range
 

@@ -2,7 +2,7 @@
 use Rattle.std.specs.Prelude.{ℕ, ◌+◌, List, [], ◌∷◌, ◌++◌, Option, Some, None, map}
 use Rattle.std.specs.List.{zip}
 use Rattle.std.specs.Option.{option_and_then}
-use Rattle.np_reading.specs.Ends.{end_of_object}
+use Rattle.np_reading.specs.Ends.{pod_of_object}
 use Rattle.np_reading.specs.LeftOut.{unaddressed}
 use Rattle.np_reading.specs.Listed.{with_admin, with_net}
 use Rattle.np_reading.specs.declared.grouped_items.GroupedItems.{GroupedItems}
@@ -52,8 +52,8 @@ with_pod so_far (Some pod) = record so_far { pods = so_far.pods ++ pod ∷ [] }
 abbrev pub with_object : Seen → ℕ → Object → Option PodContext → Seen
 with_object so_far number (object.Service one) around = record so_far { services = so_far.services ++ one ∷ [] }
 with_object so_far number (object.Ingress one) around = record so_far { ingresses = so_far.ingresses ++ record { item = number; ingress = one } ∷ [] }
-with_object so_far number (object.Pod pod) around = with_pod so_far (option_and_then (end_of_object (object.Pod pod)) around)
-with_object so_far number (object.Controller controller) around = with_pod so_far (option_and_then (end_of_object (object.Controller controller)) around)
+with_object so_far number (object.Pod pod) around = with_pod so_far (option_and_then (pod_of_object (object.Pod pod)) around)
+with_object so_far number (object.Controller controller) around = with_pod so_far (option_and_then (pod_of_object (object.Controller controller)) around)
 with_object so_far number _ around = so_far
 
 -- with what the item of a number gives

@@ -15,37 +15,37 @@ pub record PodEnd : Type 0 where
 
 -- An end of a connection. An address is taken as no pod's, even where a listed pod has it: no side of a pod speaks for
 -- it, and no pod selector matches it.
-pub data End : Type 0 where
-  pod : PodEnd → End
-  address : Address → End
+pub data ModelEnd : Type 0 where
+  pod : PodEnd → ModelEnd
+  address : Address → ModelEnd
 
 -- one packet: its two ends, its family, and its protocol and port
-pub record Packet : Type 0 where
-  pub source : End
-  pub destination : End
+pub record ModelPacket : Type 0 where
+  pub source : ModelEnd
+  pub destination : ModelEnd
   pub family : Family
   pub spot : PortSpot
 
 -- What a pod's side of a packet looks at: the end at the far side, the end that the packet goes to, its family, and
 -- its protocol and port.
 pub record Contact : Type 0 where
-  pub far : End
-  pub destination : End
+  pub far : ModelEnd
+  pub destination : ModelEnd
   pub family : Family
   pub spot : PortSpot
 
 -- the packet as the side of its destination sees it, and as that of its source does
-abbrev pub contact_of : Direction → Packet → Contact
+abbrev pub contact_of : Direction → ModelPacket → Contact
 contact_of Ingress packet = record { far = packet.source; destination = packet.destination; family = packet.family; spot = packet.spot }
 contact_of Egress packet = record { far = packet.destination; destination = packet.destination; family = packet.family; spot = packet.spot }
 
 -- the end that a packet goes to, between a near end and a far one
-abbrev pub destination_of : Direction → End → End → End
+abbrev pub destination_of : Direction → ModelEnd → ModelEnd → ModelEnd
 destination_of Ingress near far = near
 destination_of Egress near far = far
 
 -- what the side of the near end looks at
-abbrev pub contact : Direction → End → End → Family → PortSpot → Contact
+abbrev pub contact : Direction → ModelEnd → ModelEnd → Family → PortSpot → Contact
 contact direction near far family spot = record { far = far; destination = destination_of direction near far; family = family; spot = spot }
 
 -- the pod of an estate, as rules see it

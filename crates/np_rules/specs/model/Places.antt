@@ -3,7 +3,7 @@
 use Rattle.std.specs.Prelude.{ℕ, ◌+◌, List, [], map, flat_map, length, Option, Some, None, unwrap_or, if◌then◌else◌}
 use Rattle.std.specs.List.{enumerate_from}
 use Rattle.np_rules.specs.Types.{AdminPolicy, AdminRule, BasePolicy, Direction, Egress, EstateLists, Ingress, NetPolicy, NetRule}
-use Rattle.np_rules.specs.model.Ends.{End, PodEnd, pod, address}
+use Rattle.np_rules.specs.model.Ends.{ModelEnd, PodEnd, pod, address}
 use Rattle.np_rules.specs.model.Selection.{net_selects, subject_selects}
 
 pub record PlacedAdminRule : Type 0 where
@@ -67,6 +67,6 @@ abbrev pub rule_count : EstateLists → Direction → PodEnd → ℕ
 rule_count lists direction p = length (admin_places lists.admin_policies direction p) + length (net_places lists.net_policies direction p) + length (base_places lists.baseline direction p)
 
 -- how many speak of an end: none of an address
-abbrev pub end_rule_count : EstateLists → Direction → End → ℕ
+abbrev pub end_rule_count : EstateLists → Direction → ModelEnd → ℕ
 end_rule_count lists direction (pod p) = rule_count lists direction p
 end_rule_count lists direction (address a) = 0

@@ -7,7 +7,7 @@ use Rattle.np_conns.specs.Prelude.{same_proto}
 use Rattle.np_model.specs.declared.admin_policy.AdminPort.{AdminPort}
 use Rattle.np_model.specs.declared.admin_policy.AdminPort.TheVariants as admin
 use Rattle.np_model.specs.declared.network_policy.NetPort.TheVariants as net
-use Rattle.np_rules.specs.model.Ends.{End, pod, address}
+use Rattle.np_rules.specs.model.Ends.{ModelEnd, pod, address}
 
 -- whether the spot has the protocol, and a port from lo to hi
 abbrev pub in_span : Proto → ℕ → ℕ → PortSpot → Bool
@@ -18,17 +18,17 @@ abbrev pub is_named : List ℕ → PortSpot → NamedPort → Bool
 is_named name spot port = bytes_eq port.name name && (same_proto spot.proto port.proto && (spot.port == port.number))
 
 -- whether the spot is a port of that name at the end; an address has none
-abbrev pub has_named : List ℕ → PortSpot → End → Bool
+abbrev pub has_named : List ℕ → PortSpot → ModelEnd → Bool
 has_named name spot (pod p) = list_any (is_named name spot) p.ports
 has_named name spot (address a) = false
 
 -- a port entry of a NetworkPolicy, for a packet to this destination
-abbrev pub net_entry_matches : NetPort → End → PortSpot → Bool
+abbrev pub net_entry_matches : NetPort → ModelEnd → PortSpot → Bool
 net_entry_matches (net.Span proto lo hi) destination spot = in_span proto lo hi spot
 net_entry_matches (net.Named proto name) destination spot = same_proto spot.proto proto && has_named name spot destination
 
 -- a port entry of an admin rule: a named port has the protocol that it has at the destination
-abbrev pub admin_entry_matches : AdminPort → End → PortSpot → Bool
+abbrev pub admin_entry_matches : AdminPort → ModelEnd → PortSpot → Bool
 admin_entry_matches (admin.Span proto lo hi) destination spot = in_span proto lo hi spot
 admin_entry_matches (admin.Named name) destination spot = has_named name spot destination
 

@@ -1,7 +1,7 @@
 use Rattle.std.proofs.Common.{◌≡◌, ◌≤◌, length}
 use denote.Text.{Utf8}
 use denote.Shadow.{shadow}
-use Rattle.np_addr.specs.Ipv6Grammar.{groups_of}
+use Rattle.np_addr.specs.Ipv6Grammar.{groups_between}
 use Rattle.np_addr.specs.Prelude.{pieces}
 use Rattle.np_addr.proofs.SideLemmas.{behind}
 use Rattle.np_addr.proofs.ipv6.read_groups.Given as goal
@@ -10,7 +10,7 @@ use Rattle.np_addr.proofs.ipv6.read_groups.Given as goal
 abbrev pub invariant-loop-piece : goal.invariant-loop-piece
 invariant-loop-piece l =
     shadow (Utf8 l.rest) × (length l.groups ≤ 8)
-    × (groups_of l.dotted (pieces 58 l.text) ≡ behind l.groups (groups_of l.dotted (pieces 58 l.rest)))
+    × (groups_between l.dotted (pieces 58 l.text) ≡ behind l.groups (groups_between l.dotted (pieces 58 l.rest)))
 
 abbrev pub decreases-loop-piece : goal.decreases-loop-piece
 decreases-loop-piece l = length l.rest

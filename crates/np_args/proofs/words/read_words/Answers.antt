@@ -6,17 +6,17 @@ use Rattle.std.specs.Map.{lookup}
 use Rattle.std.specs.Str.{bytes_eq}
 use Rattle.std.specs.declared.alloc.Global.{Global}
 use Rattle.np_args.proofs.words.read_words.Goals as goal
-use Rattle.np_args.specs.Prelude.{Job, Text, asked_by, jobs}
+use Rattle.np_args.specs.Prelude.{Job, Word, asked_by, jobs}
 
-other : (text name : Text) → text ≢ name → bytes_eq text name ≡ false
+other : (text name : Word) → text ≢ name → bytes_eq text name ≡ false
 other text name differ = false_from_ne_true (bytes_eq text name) (λ same. differ ((bytes_eq-Decides text name).0 same))
 
 -- a first word that is no command asks for nothing
-nothing_asked : (words : List (String Global)) (first : String Global) (text : Text) → Some first ≡ slice_get words 0 → text ≡ string_bytes first → lookup (bytes_eq text) jobs ≡ None → asked_by words ≡ None
+nothing_asked : (words : List (String Global)) (first : String Global) (text : Word) → Some first ≡ slice_get words 0 → text ≡ string_bytes first → lookup (bytes_eq text) jobs ≡ None → asked_by words ≡ None
 nothing_asked [] first text at is none = refl
 nothing_asked (one ∷ rest) first text at is none =
-    ap (option_and_then (λ (job : List Text → Option Job). job (map string_bytes (one ∷ rest))))
-    (subst (λ (s : String Global). lookup (bytes_eq (string_bytes s)) jobs ≡ None) (same_Some first one at) (subst (λ (t : Text). lookup (bytes_eq t) jobs ≡ None) is none))
+    ap (option_and_then (λ (job : List Word → Option Job). job (map string_bytes (one ∷ rest))))
+    (subst (λ (s : String Global). lookup (bytes_eq (string_bytes s)) jobs ≡ None) (same_Some first one at) (subst (λ (t : Word). lookup (bytes_eq t) jobs ≡ None) is none))
 
 pub returns-in_default-as_str-clause-usage : goal.returns-in_default-as_str-clause-usage
 returns-in_default-as_str-clause-usage c = λ usage.

@@ -1,5 +1,5 @@
 use Rattle.std.proofs.Common.{ℕ, List, get_or, refl, sym, ap, subst, ◌∙◌}
-use Rattle.np_check.specs.Prelude.{Address, At, EstateLists, First, Second, Work, addresses_of, counterexample_between, first_of}
+use Rattle.np_check.specs.Prelude.{Address, At, EstateLists, First, Second, Work, addresses_of, counterexample_between, first_given}
 use Rattle.np_kinds.specs.Prelude.{IsWorkload}
 use Rattle.std.proofs.lemmas.List.{take_all}
 use Rattle.np_check.proofs.AddressLemmas.{no_works, one_work_more}
@@ -8,7 +8,7 @@ use Rattle.np_check.proofs.addresses.first_from_addresses.Goals as goal
 
 pub returns-then-is_empty-clause-counterexample : goal.returns-then-is_empty-clause-counterexample
 returns-then-is_empty-clause-counterexample c =
-    none_of c.args.block.now (λ address. first_of (λ (work : ℕ). counterexample_between c.args.checker.now c.args.asked.now.wanted c.args.asked.now.conns.now (At address) (Work work))
+    none_of c.args.block.now (λ address. first_given (λ (work : ℕ). counterexample_between c.args.checker.now c.args.asked.now.wanted c.args.asked.now.conns.now (At address) (Work work))
     c.args.destinations.now) (λ n. c.if-is_empty.ensures.answer (First n)) (λ n. c.if-is_empty.ensures.answer (Second n))
 
 pub loop-destination-init : goal.loop-destination-init
@@ -27,7 +27,7 @@ returns-in_err-found-clause-same c = c.first_from.ensures.same ∙ c.loop-destin
 
 pub loop-destination-preserved : goal.loop-destination-preserved
 loop-destination-preserved c =
-    let first_to = λ (lists : EstateLists). first_of (λ address. counterexample_between lists c.args.asked.now.wanted c.args.asked.now.conns.now (At address)
+    let first_to = λ (lists : EstateLists). first_given (λ address. counterexample_between lists c.args.asked.now.wanted c.args.asked.now.conns.now (At address)
     (Work (get_or c.args.destinations.now c.loop-destination.destination-index 0))) (addresses_of c.args.block.now) in
     let found = c.in_ok-found.ensures.counterexample ∙ ap first_to c.loop-destination.invariant.same in
     record {
@@ -40,7 +40,7 @@ loop-destination-preserved c =
 pub returns-clause-counterexample : goal.returns-clause-counterexample
 returns-clause-counterexample c =
     c.loop-destination.invariant.first
-    ∙ ap (λ (works : List ℕ). first_of (λ (address : Address). first_of
+    ∙ ap (λ (works : List ℕ). first_given (λ (address : Address). first_given
     (λ (work : ℕ). counterexample_between c.args.checker.now c.args.asked.now.wanted c.args.asked.now.conns.now (At address) (Work work)) works) (addresses_of c.args.block.now))
     (take_all c.loop-destination.destination-index c.args.destinations.now c.loop-destination-test.false)
 

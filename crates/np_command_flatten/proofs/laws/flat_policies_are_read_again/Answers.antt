@@ -1,4 +1,4 @@
-use Rattle.np_manifests.specs.Lists.{list_line, list_text}
+use Rattle.np_manifests.specs.Lists.{list_line, manifest_text}
 use Rattle.np_command_flatten.proofs.FlatLemmas.{estate_of-flat, policies-apart, policies-few, policies-printable}
 use Rattle.np_command_flatten.proofs.LawfulReads.{estate-lawful}
 use Rattle.np_command_flatten.proofs.ListLemmas.{json_of-list_line, json_of-list_text}
@@ -11,7 +11,7 @@ returns c = record {
   few = policies-few;
   apart = policies-apart;
   text = λ texts lists read.
-      estate_of-flat texts lists (list_text (flat_policies lists)) read (json_of-list_text (flat_policies lists) (policies-printable lists (estate-lawful texts lists read)));
+      estate_of-flat texts lists (manifest_text (flat_policies lists)) read (json_of-list_text (flat_policies lists) (policies-printable lists (estate-lawful texts lists read)));
   line = λ texts lists read.
       estate_of-flat texts lists (list_line (flat_policies lists)) read (json_of-list_line (flat_policies lists) (policies-printable lists (estate-lawful texts lists read)));
 }

@@ -6,4 +6,4 @@ use Rattle.np_sample.proofs.cluster.add_net_policies.Goals as goal
 
 pub loop-number-preserved : goal.loop-number-preserved
 loop-number-preserved c =
-    ap (map view) c.in_ok-push.ensures.items ∙ pushed spec.net_policy _ _ _ _ c.loop-number.invariant c.in_ok-net_policy.ensures
+    ap (map view) c.in_ok-push.ensures.items ∙ pushed spec.sample_net_policy _ _ _ _ c.loop-number.invariant c.in_ok-net_policy.ensures

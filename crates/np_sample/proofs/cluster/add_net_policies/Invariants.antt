@@ -6,4 +6,4 @@ use Rattle.np_sample.proofs.cluster.add_net_policies.Given as goal
 
 -- what is pushed so far are the objects of the numbers so far
 abbrev pub invariant-loop-number : goal.invariant-loop-number
-invariant-loop-number l = map view l.values.items ≡ map view l.initial.values.items ++ map spec.net_policy (range_with_len 0 l.number)
+invariant-loop-number l = map view l.values.items ≡ map view l.initial.values.items ++ map spec.sample_net_policy (range_with_len 0 l.number)

@@ -6,4 +6,4 @@ use Rattle.np_sample.proofs.cluster.add_pods.Goals as goal
 
 pub loop-number-preserved : goal.loop-number-preserved
 loop-number-preserved c =
-    ap (map view) c.in_ok-push.ensures.items ∙ pushed spec.pod _ _ _ _ c.loop-number.invariant c.in_ok-pod.ensures
+    ap (map view) c.in_ok-push.ensures.items ∙ pushed spec.sample_pod _ _ _ _ c.loop-number.invariant c.in_ok-pod.ensures
