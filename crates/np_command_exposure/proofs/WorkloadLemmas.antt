@@ -7,7 +7,8 @@ use Rattle.np_base.proofs.Lists.{slice_get-some}
 use Rattle.np_command_exposure.specs.Types.{Direction, Egress, EstateLists, ExposureRow, Ingress, Stranger}
 use Rattle.np_conns.proofs.ConnLemmas.{conns_of-agrees}
 use Rattle.np_conns.specs.declared.proto.Proto.TheVariants.{Tcp}
-use Rattle.np_exposure.specs.Prelude.{Four, PortSpot, SidedRequirement, bare_row, can_be_assumed, choices_left, each_once, exposes, first_stranger, mentions, negated, rows_at, rows_left, rows_of}
+use Rattle.np_exposure.specs.Prelude.{Four, PortSpot, bare_row, can_be_assumed, choices_left, each_once, exposes, first_stranger, mentions, negated, rows_at, rows_left, rows_of}
+use Rattle.np_exposure.specs.declared.sided_requirement.SidedRequirement.{SidedRequirement}
 use Rattle.np_fold.proofs.NamespaceLemmas.{labels_agree}
 use Rattle.np_fold.proofs.WorkloadLemmas.{one_workload}
 use Rattle.np_fold.specs.Prelude.{IsSameKind, keys_of_admin_policy, keys_of_baseline, keys_of_estate, keys_of_net_policy, keys_of_service, workload_number}
