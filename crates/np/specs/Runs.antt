@@ -3,7 +3,8 @@ use Rattle.std.specs.Prelude.{◌≡◌, ℕ, String, Result, Ok, Err}
 use Rattle.std.specs.Global.{Global, Vec}
 use Rattle.np_args.specs.Prelude.{asked_by}
 use Rattle.np_cli.specs.Prelude.{Bytes, Counted, Promises, Run, ran}
-use Rattle.np_command.specs.Prelude.{Failure, IsKept, Said, SinkTrace, code_of, failure_status}
+use Rattle.np_command.specs.Prelude.{IsKept, Said, SinkTrace, code_of, failure_status}
+use Rattle.np_command.specs.declared.failure.Failure.{Failure}
 use Rattle.np_command.specs.declared.status.Status.{Status}
 use Rattle.np_frame.specs.Prelude.{IsUntouched, SourceTrace, failure_text}
 
@@ -19,7 +20,7 @@ pub record EndsAsPromised (run : Run) (err : SinkTrace) (code : ℕ) : Type 0 wh
 -- There are no words: the code is that of the failure, which was said, and nothing else was touched.
 pub record EndsWithoutWords (failure : Failure) (source : SourceTrace) (out err : SinkTrace) (code : ℕ) : Type 0 where
   pub answered : code ≡ code_of (failure_status failure)
-  pub source : IsUntouched source
+  pub untouched : IsUntouched source
   pub kept : IsKept out
   pub said : Said err (failure_text failure)
 

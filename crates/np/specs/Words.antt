@@ -1,6 +1,7 @@
 -- The words that the program is called with.
 use Rattle.std.specs.Prelude.{◌≡◌, ◌⊎◌, ℕ, List, Option, Some, None, drop}
-use Rattle.np_command.specs.Prelude.{Failure, NoMemory, Usage}
+use Rattle.np_command.specs.declared.failure.Failure.{Failure}
+use Rattle.np_command.specs.declared.failure.Failure.TheVariants.{NoMemory, Usage}
 
 -- these are the words of a call, the name of the program first, where it tells them
 abbrev pub AreTheWords : Option (List (List ℕ)) → List (List ℕ) → Type 0
