@@ -138,7 +138,9 @@ def end(rng: Rng, names: List[str]) -> str:
     kind = rng.random()
     if kind < 0.7:
         return rng.choice(names)
-    return rng.choice(["10.0.0.1", "10.1.0.2", "fd00::2", "255.255.255.255", "::1"] if kind < 0.95 else ["no/such", "a/", "no/\r\n\t\x1b\x85\\n", *ADDRESSES])
+    if kind < 0.95:
+        return rng.choice(["10.0.0.1", "10.1.0.2", "fd00::2", "255.255.255.255", "::1"])
+    return rng.choice(["no/such", "a/", "no/\r\n\t\x1b\x85\\n", *ADDRESSES])
 
 
 def options(rng: Rng, command: str, names: Tuple[List[str], List[str]]) -> List[str]:
