@@ -1,4 +1,4 @@
--- Contacts that a rule does not tell apart. For KindSides and KindVerdicts.
+-- Contacts that a rule does not tell apart. For KindSides, KindVerdicts and crates above.
 use Rattle.std.proofs.Common.{◌≡◌, ℕ, List, ◌&&◌, ap, ◌∙◌}
 use Rattle.std.specs.List.{AllByRecursion, flat_map, list_any}
 use Rattle.np_base.proofs.Each.{All-weaker}

@@ -1,4 +1,4 @@
--- Pods and contacts that the side of a pod does not tell apart. For KindVerdicts.
+-- Pods and contacts that the side of a pod does not tell apart. For KindVerdicts and crates above.
 use Rattle.std.proofs.Common.{◌≡◌, List, [], ◌∷◌, ◌++◌, ◌&&◌, map, Option, Some, None, unwrap_or, refl, ap, ◌∙◌, if◌then◌else◌}
 use Rattle.std.specs.List.{AllByRecursion, enumerate_from, flat_map}
 use Rattle.std.specs.Str.{bytes_eq}
