@@ -1,9 +1,9 @@
 //! What decides every packet between two ends.
-ghost use Rattle.std.specs.Prelude.{◌≡◌, ◌+◌, ◌≤◌, ◌<◌, false, length, map, All, IfOk, OnOk};
+ghost use Rattle.std.specs.Prelude.{◌≡◌, ◌<◌, false, length, map, All, IfOk};
 ghost use Rattle.np_conns.specs.Prelude.{has_spot, is_spot};
 ghost use Rattle.np_model.specs.Prelude.{IsLawful};
 ghost use Rattle.np_explain.specs.Prelude.{AreRightParts, IsFamilyAt, IsFamilyOf, IsMarkOf, are_one_pod, decider_between, decider_near, named_part, parts_of, placed_at, with_end};
-ghost use Rattle.np_rules.specs.Prelude.{IsEndOf, IsSideLayer, decider, end_of, end_rule_count, near_pod, pod, side_of, side_rule_count};
+ghost use Rattle.np_rules.specs.Prelude.{IsEndOf, IsSideLayer, decider, near_pod, pod};
 
 use crate::flow::Flow;
 use crate::order::first_number;
@@ -16,20 +16,20 @@ use np_model::{Direction, Estate};
 use np_rules::{Decider, End, PodRules};
 use np_tiers::{Layer, Marked, carve};
 use std::alloc::Global;
-use std::sync::ledger::Ledger;
+use std::marker::Brand;
+use std::sync::ledger::{Blank, Ledger};
 
 /// What decides every packet of a flow, at one side: with `Egress` at the source, with `Ingress` at the destination. There is
 /// one part for each decider that decides some protocol and port, with exactly those that it decides, in the order of the
 /// least of them: TCP, UDP, SCTP, and then by port. So the sets are disjoint, none is empty, and together they are all
 /// protocols and ports. An address has no side: at one, a single part has everything.
 ///
-/// The ends are not one pod. All rules that speak of the side's pod are counted. Want of memory is the one refusal.
-pub fn explain<L: Ledger>(
+/// The ends are not one pod. Want of memory is the one refusal.
+pub fn explain(
     alloc: Global,
     estate: &Estate,
     flow: &Flow,
     direction: Direction,
-    steps: &mut Steps<L>,
 ) -> Result<Seq<Part>, NoMemory>
     requires lawful { IsLawful estate.now }
     requires source { IsEndOf estate.now flow.now.source }
@@ -40,14 +40,9 @@ pub fn explain<L: Ledger>(
         (AreRightParts (decider_between estate.now direction flow.now.source flow.now.destination flow.now.family)) }
     ensures list { IfOk result (λ parts.
         parts ≡ parts_of (decider_between estate.now direction flow.now.source flow.now.destination flow.now.family)) }
-    ensures cost { OnOk result (steps.new
-        ≡ steps.old + end_rule_count estate.now direction (end_of estate.now (placed_at direction flow.now.source flow.now.destination))) }
-    ensures least { steps.old ≤ steps.new }
-    ensures most { steps.new
-        ≤ steps.old + end_rule_count estate.now direction (end_of estate.now (placed_at direction flow.now.source flow.now.destination)) }
 {
     match flow.near(direction) {
-        End::Pod(pod) => pod_parts(alloc, estate, pod, flow, direction, steps),
+        End::Pod(pod) => pod_parts(alloc, estate, pod, flow, direction),
         End::At(_) => everything(alloc),
     }
 }
@@ -66,46 +61,38 @@ fn everything(alloc: Global) -> Result<Seq<Part>, NoMemory>
 }
 
 // The parts at a pod, the near end of a flow at that side.
-fn pod_parts<L: Ledger>(
+fn pod_parts(
     alloc: Global,
     estate: &Estate,
     pod: u32,
     flow: &Flow,
     direction: Direction,
-    steps: &mut Steps<L>,
 ) -> Result<Seq<Part>, NoMemory>
     requires lawful { IsLawful estate.now }
     requires pod { pod < length estate.now.pods }
     requires far { IsEndOf estate.now (placed_at direction flow.now.destination flow.now.source) }
     requires family { IsFamilyAt (placed_at direction flow.now.destination flow.now.source) flow.now.family }
-    ensures parts { IfOk result (AreRightParts
+    ensures { IfOk result (AreRightParts
         (decider_near estate.now direction (End.Pod pod) (placed_at direction flow.now.destination flow.now.source) flow.now.family)) }
-    ensures cost { OnOk result (steps.new ≡ steps.old + side_rule_count (side_of estate.now pod direction)) }
-    ensures least { steps.old ≤ steps.new }
-    ensures most { steps.new ≤ steps.old + side_rule_count (side_of estate.now pod direction) }
 {
     let rules = PodRules::of(alloc, estate, pod, direction)?;
-    parts_with(alloc, &rules, flow.far(direction), flow.family, steps)
+    parts_with(alloc, &rules, flow.far(direction), flow.family)
 }
 
 // The parts of the rules that speak of a pod, with a far end.
-fn parts_with<L: Ledger>(
+fn parts_with(
     alloc: Global,
     rules: &PodRules<'_>,
     far: End,
     family: Family,
-    steps: &mut Steps<L>,
 ) -> Result<Seq<Part>, NoMemory>
     requires lawful { IsLawful rules.now.lists }
     requires far { IsEndOf rules.now.lists far }
     requires family { IsFamilyAt far family }
-    ensures parts { IfOk result (AreRightParts (λ spot.
+    ensures { IfOk result (AreRightParts (λ spot.
         decider rules.now.lists rules.now.direction (pod (near_pod rules.now)) (with_end far family rules.now spot))) }
-    ensures cost { OnOk result (steps.new ≡ steps.old + side_rule_count rules.now) }
-    ensures least { steps.old ≤ steps.new }
-    ensures most { steps.new ≤ steps.old + side_rule_count rules.now }
 {
-    let layer = layer_with(alloc, rules, far, family, steps)?;
+    let layer = layer_with::<Brand>(alloc, rules, far, family, Blank::new(1))?;
     let side = NamedSide::of(alloc, rules, &layer)?;
     let entries = carve(alloc, &layer)?;
     let mut parts = named_parts(alloc, &side, entries)?;
@@ -113,24 +100,26 @@ fn parts_with<L: Ledger>(
     Ok(Seq::from_vec(parts))
 }
 
-// The rules that speak of a pod, as sets of what they match with a far end.
+// The rules that speak of a pod, as sets of what they match with a far end. They are counted, and nobody asks how many they
+// were.
 fn layer_with<L: Ledger>(
     alloc: Global,
     rules: &PodRules<'_>,
     far: End,
     family: Family,
-    steps: &mut Steps<L>,
+    blank: Blank,
 ) -> Result<Layer<ConnSet>, NoMemory>
     requires far { IsEndOf rules.now.lists far }
     requires family { IsFamilyAt far family }
-    ensures layer { IfOk result (IsSideLayer has_spot is_spot rules.now (with_end far family)) }
-    ensures cost { OnOk result (steps.new ≡ steps.old + side_rule_count rules.now) }
-    ensures least { steps.old ≤ steps.new }
-    ensures most { steps.new ≤ steps.old + side_rule_count rules.now }
+    requires name { blank.name ≡ L.name }
+    requires parts { blank.parts ≡ L.parts }
+    requires some { 0 < blank.parts }
+    ensures { IfOk result (IsSideLayer has_spot is_spot rules.now (with_end far family)) }
 {
+    let mut steps: Steps<L> = Steps::new(blank);
     match far {
-        End::Pod(peer) => rules.pod_layer(alloc, peer, family, steps),
-        End::At(address) => rules.point_layer(alloc, address, steps),
+        End::Pod(peer) => rules.pod_layer(alloc, peer, family, &mut steps),
+        End::At(address) => rules.point_layer(alloc, address, &mut steps),
     }
 }
 

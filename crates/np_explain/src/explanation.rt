@@ -1,5 +1,5 @@
 //! What decides between two ends, at both sides of them, and what passes.
-ghost use Rattle.std.specs.Prelude.{◌≡◌, ◌≤◌, ◌&&◌, false, true, IfOk};
+ghost use Rattle.std.specs.Prelude.{◌≡◌, ◌&&◌, false, true, IfOk};
 ghost use Rattle.np_conns.specs.Prelude.{IsConns, has_spot, is_spot};
 ghost use Rattle.np_conns.specs.declared.port_spot.PortSpot.{PortSpot};
 ghost use Rattle.np_model.specs.Prelude.{IsLawful};
@@ -10,12 +10,11 @@ ghost use Rattle.np_rules.specs.Prelude.{IsEndOf, decider_allows};
 use crate::explaining::explain;
 use crate::flow::Flow;
 use crate::part::Part;
-use np_base::{Cells, NoMemory, Seq, Steps};
+use np_base::{Cells, NoMemory, Seq};
 use np_conns::ConnSet;
 use np_model::{Direction, Estate};
 use np_rules::Decider;
 use std::alloc::Global;
-use std::sync::ledger::Ledger;
 
 /// What decides every packet of a family between two ends, at its source and at its destination, and the protocols and ports
 /// at which packets are allowed.
@@ -39,13 +38,8 @@ impl Drop for Explanation {
 /// The explanation of a flow. A packet is allowed where what decides at its source allows it, and what decides at its
 /// destination does.
 ///
-/// The ends are not one pod. The rules that are looked at are counted. Want of memory is the one refusal.
-pub fn explain_sides<L: Ledger>(
-    alloc: Global,
-    estate: &Estate,
-    flow: &Flow,
-    steps: &mut Steps<L>,
-) -> Result<Explanation, NoMemory>
+/// The ends are not one pod. Want of memory is the one refusal.
+pub fn explain_sides(alloc: Global, estate: &Estate, flow: &Flow) -> Result<Explanation, NoMemory>
     requires lawful { IsLawful estate.now }
     requires source { IsEndOf estate.now flow.now.source }
     requires destination { IsEndOf estate.now flow.now.destination }
@@ -53,10 +47,9 @@ pub fn explain_sides<L: Ledger>(
     requires family { IsFamilyOf flow.now.source flow.now.destination flow.now.family }
     ensures made { IfOk result (λ made. made ≡ spec.explanation_of estate.now flow.now.source flow.now.destination flow.now.family) }
     ensures right { IfOk result (spec.IsRightFor estate.now flow.now.source flow.now.destination flow.now.family) }
-    ensures least { steps.old ≤ steps.new }
 {
-    let egress = explain(alloc, estate, flow, Direction::Egress, steps)?;
-    let ingress = explain(alloc, estate, flow, Direction::Ingress, steps)?;
+    let egress = explain(alloc, estate, flow, Direction::Egress)?;
+    let ingress = explain(alloc, estate, flow, Direction::Ingress)?;
     let conns = allowed_by_both(alloc, egress.items(), ingress.items())?;
     Ok(Explanation {
         egress,

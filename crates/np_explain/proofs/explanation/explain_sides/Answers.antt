@@ -4,7 +4,7 @@ use Rattle.np_explain.proofs.explanation.explain_sides.Goals as goal
 use Rattle.np_explain.specs.Prelude.{IsRightFor, Part, some_allows}
 
 pub returns-clause-made : goal.returns-clause-made
-returns-clause-made g c =
+returns-clause-made c =
     explanation-made c.args.estate.now c.args.flow.now.source c.args.flow.now.destination c.args.flow.now.family
     c.in_ok-egress.egress c.in_ok-ingress.ingress c.in_ok-conns.conns
     c.in_ok-egress.ensures.list c.in_ok-ingress.ensures.list c.in_ok-egress.ensures.parts c.in_ok-ingress.ensures.parts
@@ -12,7 +12,7 @@ returns-clause-made g c =
     ∙ ap₂ (λ (sent received : List Part). some_allows sent spot && some_allows received spot) c.items.ensures c.items-2.ensures)
 
 pub returns-clause-right : goal.returns-clause-right
-returns-clause-right g c =
+returns-clause-right c =
     subst (IsRightFor c.args.estate.now c.args.flow.now.source c.args.flow.now.destination c.args.flow.now.family)
-    (sym (returns-clause-made g c))
+    (sym (returns-clause-made c))
     (explanation-right c.args.estate.now c.args.flow.now.source c.args.flow.now.destination c.args.flow.now.family)
