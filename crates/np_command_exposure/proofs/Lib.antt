@@ -1,3 +1,4 @@
 pub mod ExposureLemmas
 pub mod PromiseLemmas
 pub mod SideLemmas
+mod WorkloadLemmas

@@ -19,7 +19,7 @@ use Rattle.np_command_exposure.specs.Promise.{AreAsked, IsFirstOver, SaysWhatIsE
 use Rattle.np_command_exposure.specs.Report.{both_sides, first_fault, or_later, row_text, side_rows, sides_shown, weight_at, weight_fault}
 use Rattle.np_exposure.proofs.LeftLemmas.{rows_of-are}
 use Rattle.np_exposure.proofs.RightLemmas.{each_row-first, first_row-tells}
-use Rattle.np_exposure.proofs.WorkloadLemmas.{workload-rows}
+use Rattle.np_command_exposure.proofs.WorkloadLemmas.{workload-rows}
 use Rattle.np_exposure.specs.Prelude.{FirstRowTells, is_hypothetical, mentions, rows_of, weight}
 use Rattle.np_exposure.specs.declared.exposures.TheConstants.{MOST_PATTERNS}
 use Rattle.np_fold.specs.Prelude.{Workload, folding_of, members_of, name_of, number_named, workloads_of}

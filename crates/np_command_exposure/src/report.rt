@@ -8,7 +8,7 @@ ghost use Rattle.np_report.specs.Prelude.{text_to_come};
 ghost use Rattle.np_kinds.specs.Prelude.{IsWorkload};
 
 use np_args::Format;
-use np_base::{NoMemory, Seq, Steps, Text};
+use np_base::{NoMemory, Seq, Text};
 use np_command::{Failure, Fault, WriteFault, workload_of};
 use np_conns::print_conns;
 use np_exposure::{ExposureFault, ExposureRow, MOST_PATTERNS, exposure, print_peer, weight};
@@ -18,7 +18,6 @@ use np_kinds::first_place;
 use np_model::Direction;
 use np_report::{CsvForm, Form, JsonForm, RowText, TextForm, lines_of};
 use std::alloc::Global;
-use std::sync::ledger::Ledger;
 
 /// A workload, by its number, as it is sent to or as it sends.
 #[derive(Clone, Copy)]
@@ -32,22 +31,20 @@ pub struct ShownSide {
 /// requirements that are mentioned of a shown workload in a direction may tell apart more patterns of labels than are looked at,
 /// with the first such workload, and that of ingress first. Both come before the first byte is written.
 #[tactic(auto, unfolding(crate::specs::Report::exposure_reply))]
-pub fn exposure_of<O: Sink, L: Ledger>(
+pub fn exposure_of<O: Sink>(
     alloc: Global,
     folded: &Folded,
     workload: &Option<Text>,
     format: Format,
     out: &mut O,
-    steps: &mut Steps<L>,
 ) -> Result<(), Failure>
-    ensures wrote { Wrote (sunk O.taken O.faults out.old out.new)
+    ensures { Wrote (sunk O.taken O.faults out.old out.new)
         (spec.exposure_reply workload.now format folded.now)
         result }
-    ensures least { steps.old ≤ steps.new }
 {
     let sides = sides_shown(alloc, folded, workload)?;
     must_be_few(alloc, folded, sides.items())?;
-    write_in(alloc, folded, sides.items(), format, out, steps)?;
+    write_in(alloc, folded, sides.items(), format, out)?;
     Ok(())
 }
 
@@ -133,46 +130,42 @@ fn must_be_light(alloc: Global, folded: &Folded, side: ShownSide) -> Result<(), 
 
 // Writes the rows of some sides in a format.
 #[tactic(auto, unfolding(crate::specs::Report::exposure_text))]
-fn write_in<O: Sink, L: Ledger>(
+fn write_in<O: Sink>(
     alloc: Global,
     folded: &Folded,
     sides: &[ShownSide],
     format: Format,
     out: &mut O,
-    steps: &mut Steps<L>,
 ) -> Result<(), WriteFault>
     requires there { All (λ side. IsWorkload folded.now side.workload) sides.now }
     requires few { All (λ side. spec.weight_at folded.now side ≤ MOST) sides.now }
-    ensures written { Writes (sunk O.taken O.faults out.old out.new) (spec.exposure_text format folded.now sides.now) result }
-    ensures least { steps.old ≤ steps.new }
+    ensures { Writes (sunk O.taken O.faults out.old out.new) (spec.exposure_text format folded.now sides.now) result }
 {
     match format {
-        Format::Plain => write_sides::<TextForm, O, L>(alloc, folded, sides, out, steps),
-        Format::Csv => write_sides::<CsvForm, O, L>(alloc, folded, sides, out, steps),
-        Format::Json => write_sides::<JsonForm, O, L>(alloc, folded, sides, out, steps),
+        Format::Plain => write_sides::<TextForm, O>(alloc, folded, sides, out),
+        Format::Csv => write_sides::<CsvForm, O>(alloc, folded, sides, out),
+        Format::Json => write_sides::<JsonForm, O>(alloc, folded, sides, out),
     }
 }
 
 // Writes the rows of some sides in a form. They are made side by side, and gathered, so that many rows are one call of the
 // sink.
-fn write_sides<F: Form, O: Sink, L: Ledger>(
+fn write_sides<F: Form, O: Sink>(
     alloc: Global,
     folded: &Folded,
     sides: &[ShownSide],
     out: &mut O,
-    steps: &mut Steps<L>,
 ) -> Result<(), WriteFault>
     requires there { All (λ side. IsWorkload folded.now side.workload) sides.now }
     requires few { All (λ side. spec.weight_at folded.now side ≤ MOST) sides.now }
-    ensures written { Writes (sunk O.taken O.faults out.old out.new)
+    ensures { Writes (sunk O.taken O.faults out.old out.new)
         (text_to_come F.bytes false (flat_map (spec.side_rows folded.now) sides.now))
         result }
-    ensures least { steps.old ≤ steps.new }
 {
     let mut gathered = BufferedSink::new(alloc)?;
     let mut came = false;
     for side in sides {
-        let rows = rows_at(alloc, folded, *side, steps)?;
+        let rows = rows_at(alloc, folded, *side)?;
         let lines = lines_of::<F>(alloc, came, rows.items())?;
         gathered.put(out, &lines)?;
         came |= !rows.items().is_empty();
@@ -184,21 +177,15 @@ fn write_sides<F: Form, O: Sink, L: Ledger>(
 
 // The rows of a side.
 #[tactic(auto, unfolding(crate::specs::Report::side_rows))]
-fn rows_at<L: Ledger>(
-    alloc: Global,
-    folded: &Folded,
-    side: ShownSide,
-    steps: &mut Steps<L>,
-) -> Result<Seq<RowText>, NoMemory>
+fn rows_at(alloc: Global, folded: &Folded, side: ShownSide) -> Result<Seq<RowText>, NoMemory>
     requires there { IsWorkload folded.now side.workload }
     requires few { spec.weight_at folded.now side ≤ MOST }
-    ensures rows { IfOk result (λ rows. rows ≡ spec.side_rows folded.now side) }
-    ensures least { steps.old ≤ steps.new }
+    ensures { IfOk result (λ rows. rows ≡ spec.side_rows folded.now side) }
 {
     let workloads = folded.workloads();
     let name = workloads.name(side.workload);
     let pod = first_place(folded, side.workload);
-    match exposure(alloc, folded.estate(), pod, side.direction, steps) {
+    match exposure(alloc, folded.estate(), pod, side.direction) {
         Ok(rows) => row_texts(alloc, name, side.direction, rows.items()),
         Err(ExposureFault::NoMemory) => Err(NoMemory),
         Err(ExposureFault::TooManyPatterns { .. }) => unreachable!(),

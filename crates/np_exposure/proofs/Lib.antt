@@ -3,7 +3,6 @@ pub mod WeightLemmas
 pub mod SameLemmas
 pub mod StateLemmas
 pub mod FillLemmas
-pub mod WitnessLemmas
 pub mod WalkLemmas
 pub mod DecidedLemmas
 pub mod ListLemmas
@@ -18,8 +17,6 @@ pub mod WellLemmas
 pub mod RowLemmas
 pub mod FirstStrangerLemmas
 pub mod LeftLemmas
-pub mod AlikePodLemmas
-pub mod WorkloadLemmas
 pub mod PossibleLemmas
 pub mod SettledLemmas
 pub mod OnlyNamespaceLemmas

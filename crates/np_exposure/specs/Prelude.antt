@@ -10,7 +10,7 @@ unfoldable pub use Rattle.np_exposure.specs.Rows.{rows_left}
 pub use Rattle.np_exposure.specs.Strangers.{IsExposure, exposes, is_hypothetical, labels_at, meets, meets_all, negated}
 pub use Rattle.np_exposure.specs.Tree.{AreRowsAt, AreRowsOf, HasExposure, IsAssumed, IsJoined, IsPossible, always, apart, either, equal, never, with_first}
 unfoldable pub use Rattle.np_exposure.specs.Tree.{AreRows}
-pub use Rattle.np_exposure.specs.Types.{Absent, AdminPeer, AdminPolicy, AdminPort, AdminRule, BasePolicy, Direction, Egress, EstateLists, ExposureRow, Four, Ingress, MentionedKey, Namespace, NetPeer, NetPolicy, NetPort, NetRule, NoneOf, OneOf, Op, Pair, Pending, Pod, PortSpot, Present, Requirement, RuleConns, Selector, Side, SidedRequirement, Stranger}
+pub use Rattle.np_exposure.specs.Types.{Absent, AdminPeer, AdminPolicy, AdminPort, AdminRule, BasePolicy, Direction, Egress, ExposureRow, Four, Ingress, MentionedKey, Namespace, NetPeer, NetPolicy, NetPort, NetRule, NoneOf, OneOf, Op, Pair, Pending, Pod, PortSpot, Present, Requirement, RuleConns, Selector, Side, SidedRequirement, Stranger}
 pub use Rattle.np_exposure.specs.steps.Types.{Aside, Left, OpenRule, OpenRules}
 pub use Rattle.np_exposure.specs.Weight.{IsWeightFault, looks_at, patterns_at, patterns_on, product}
 unfoldable pub use Rattle.np_exposure.specs.Weight.{keys_on, values_at, weight}

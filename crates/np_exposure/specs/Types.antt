@@ -13,7 +13,6 @@ pub use Rattle.np_model.specs.declared.admin_policy.AdminRule.{AdminRule}
 pub use Rattle.np_model.specs.declared.admin_policy.BasePolicy.{BasePolicy}
 pub use Rattle.np_model.specs.declared.direction.Direction.{Direction}
 pub use Rattle.np_model.specs.declared.direction.Direction.TheVariants.{Egress, Ingress}
-pub use Rattle.np_model.specs.declared.lists.EstateLists.{EstateLists}
 pub use Rattle.np_model.specs.declared.network_policy.NetPeer.{NetPeer}
 pub use Rattle.np_model.specs.declared.network_policy.NetPolicy.{NetPolicy}
 pub use Rattle.np_model.specs.declared.network_policy.NetPort.{NetPort}

@@ -16,11 +16,10 @@ use crate::sided_requirement::SidedRequirement;
 use crate::step::Left;
 use crate::walk::rows_of;
 use crate::weights::weight_of;
-use np_base::{NoMemory, Seq, Steps};
+use np_base::{NoMemory, Seq};
 use np_model::{Direction, Estate};
 use np_rules::StrangerRules;
 use std::alloc::Global;
-use std::sync::ledger::Ledger;
 
 /// More patterns of labels are not looked at.
 pub const MOST_PATTERNS: u64 = 65_536;
@@ -28,85 +27,77 @@ pub const MOST_PATTERNS: u64 = 65_536;
 /// What the side of a listed pod allows in a direction to pods that nobody has written yet, as rows: the first row
 /// whose requirements such a pod meets has exactly the protocols and ports that it is allowed. The pod is named by its
 /// place in the estate, and the list is a function of it, of the pod and of the direction. Where the mentioned
-/// requirements may tell apart more than 65,536 patterns of labels, the answer is how many. The rules are looked at
-/// once for each row that is made on the way, and counted each time.
-pub fn exposure<L: Ledger>(
+/// requirements may tell apart more than 65,536 patterns of labels, the answer is how many. The rules are looked at once for
+/// each row that is made on the way.
+pub fn exposure(
     alloc: Global,
     estate: &Estate,
     pod: u32,
     direction: Direction,
-    steps: &mut Steps<L>,
 ) -> Result<Seq<ExposureRow>, ExposureFault>
     requires { pod < length estate.now.pods }
     ensures rows { IfOk result (AreRowsOf (side_of estate.now pod direction)) }
     ensures list { IfOk result (λ rows. rows ≡ rows_of (side_of estate.now pod direction)) }
     ensures few { OnOk result (weight (mentions (side_of estate.now pod direction)) ≤ MOST_PATTERNS) }
     ensures fault { IfErr result (IsWeightFault (weight (mentions (side_of estate.now pod direction)))) }
-    ensures least { steps.old ≤ steps.new }
 {
     let mentions = mentions(alloc, estate, pod, direction)?;
     let weight = weight_of(alloc, &mentions)?;
     if weight > MOST_PATTERNS {
         return Err(ExposureFault::TooManyPatterns { weight });
     }
-    Ok(rows_of_mentions(alloc, estate, pod, direction, mentions, steps)?)
+    Ok(rows_of_mentions(alloc, estate, pod, direction, mentions)?)
 }
 
 // The rows of the mentioned requirements.
-fn rows_of_mentions<L: Ledger>(
+fn rows_of_mentions(
     alloc: Global,
     estate: &Estate,
     pod: u32,
     direction: Direction,
     mentions: Vec<SidedRequirement>,
-    steps: &mut Steps<L>,
 ) -> Result<Seq<ExposureRow>, NoMemory>
     requires { pod < length estate.now.pods }
-    ensures rows { IfOk result (λ rows.
+    ensures { IfOk result (λ rows.
         AreWalked (side_of estate.now pod direction) (each_once mentions.items) (choices_at_first mentions.items) rows) }
-    ensures least { steps.old ≤ steps.new }
 {
     let labels = labels_of(alloc, &mentions)?;
     let asked = each_once(alloc, mentions)?;
     let rules = StrangerRules::of(alloc, estate, pod, direction)?;
-    rows_of_labels(alloc, &rules, &labels, &asked, steps)
+    rows_of_labels(alloc, &rules, &labels, &asked)
 }
 
 // The rows of requirements, with all choices at the keys that these look at.
-fn rows_of_labels<L: Ledger>(
+fn rows_of_labels(
     alloc: Global,
     rules: &StrangerRules<'_>,
     labels: &[MentionedKey],
     asked: &[SidedRequirement],
-    steps: &mut Steps<L>,
 ) -> Result<Seq<ExposureRow>, NoMemory>
     requires state { IsState (map choices_of labels.now) }
     requires keys { IsTrue (are_at (map choices_of labels.now) asked.now) }
-    ensures rows { IfOk result (AreWalked rules.now asked.now (map choices_of labels.now)) }
-    ensures least { steps.old ≤ steps.new }
+    ensures { IfOk result (AreWalked rules.now asked.now (map choices_of labels.now)) }
 {
     let state = all_choices(alloc, labels)?;
     let kept = asked_rules(alloc, &state, rules.net())?;
-    rows_of_choices(alloc, rules, state, &kept, asked, steps)
+    rows_of_choices(alloc, rules, state, &kept, asked)
 }
 
 // The rows of requirements, before any rule is settled.
-fn rows_of_choices<'r, L: Ledger>(
+fn rows_of_choices<'r>(
     alloc: Global,
     rules: &StrangerRules<'_>,
     state: Vec<KeyChoices<'_>>,
     kept: &'r [AskedRule<'r>],
     asked: &[SidedRequirement],
-    steps: &mut Steps<L>,
 ) -> Result<Seq<ExposureRow>, NoMemory>
     requires state { IsState state.items }
     requires keys { IsTrue (are_at state.items asked.now) }
     requires net { IsNetOf rules.now kept.now }
-    ensures rows { IfOk result (AreWalked rules.now asked.now state.entry.items) }
-    ensures least { steps.old ≤ steps.new }
+    ensures { IfOk result (AreWalked rules.now asked.now state.entry.items) }
 {
     let net = OpenRules::of(alloc, rules, kept)?;
     let mut left = Left { state, net };
-    let rows = rows_of(alloc, rules, asked, &mut left, steps)?;
+    let rows = rows_of(alloc, rules, asked, &mut left)?;
     finished(alloc, rows)
 }

@@ -1,15 +1,12 @@
 //! What follows of the rows of a pod's side. Each law is the contract of a call that does nothing.
-ghost use Rattle.std.specs.Prelude.{◌≡◌, ◌<◌, ◌≤◌, ◌↔◌, ◌++◌, ℕ, List, length, map, true};
+ghost use Rattle.std.specs.Prelude.{◌≡◌, ◌≤◌, ◌↔◌, ◌++◌, List, length, map, true};
 ghost use Rattle.std.specs.List.{AllByRecursion, list_all};
 ghost use Rattle.np_conns.specs.declared.port_spot.PortSpot.{PortSpot};
-ghost use Rattle.np_model.specs.Prelude.{IsLawful, is_well};
-ghost use Rattle.np_model.specs.declared.lists.EstateLists.{EstateLists};
+ghost use Rattle.np_model.specs.Prelude.{is_well};
 ghost use Rattle.np_exposure.specs.Prelude.{AreRowsOf, FirstRowTells, IsEachFirst, IsPossible, are_well, can_be_assumed, exposes, is_hypothetical, meets, mentions, negated, peer_text, rows_of, weight};
 ghost use Rattle.np_exposure.specs.declared.exposure_row.ExposureRow.{ExposureRow};
 ghost use Rattle.np_exposure.specs.declared.sided_requirement.SidedRequirement.{SidedRequirement};
-ghost use Rattle.np_fold.specs.Prelude.{number_of};
-ghost use Rattle.np_model.specs.declared.direction.Direction.{Direction};
-ghost use Rattle.np_rules.specs.Prelude.{IsAmong, PodSide, side_of};
+ghost use Rattle.np_rules.specs.Prelude.{IsAmong, PodSide};
 ghost use Rattle.np_rules.specs.declared.stranger.Stranger.{Stranger};
 
 /// Hypothetical pods that meet the same mentioned requirements have the same exposure.
@@ -63,15 +60,4 @@ pub fn one_text_has_one_peer()
 pub fn requirements_of_read_policies_are_well()
     ensures { (side : PodSide) (rows : List ExposureRow) → is_well side.lists ≡ true → AreRowsOf side rows →
         list_all (λ row. are_well row.requirements) rows ≡ true }
-{}
-
-/// Two pods of one workload, of lists as every estate has them, have one list of rows in each direction, and every
-/// hypothetical pod has the same exposure at both. So a workload's exposure is that of any of its pods.
-pub fn workloads_stand_for_their_pods_to_strangers()
-    ensures rows { (lists : EstateLists) (p q : ℕ) (direction : Direction) → IsLawful lists →
-        p < length lists.pods → q < length lists.pods → number_of lists p ≡ number_of lists q →
-        rows_of (side_of lists p direction) ≡ rows_of (side_of lists q direction) }
-    ensures exposures { (lists : EstateLists) (p q : ℕ) (direction : Direction) → IsLawful lists →
-        p < length lists.pods → q < length lists.pods → number_of lists p ≡ number_of lists q →
-        (s : Stranger) (spot : PortSpot) → exposes (side_of lists p direction) s spot ≡ exposes (side_of lists q direction) s spot }
 {}

@@ -38,7 +38,6 @@ pub use laws::{
     alike_strangers_have_one_exposure, each_row_is_first_for_some, first_row_tells,
     one_list_of_rows, one_text_has_one_peer, possible_assumptions_are_told,
     requirements_of_read_policies_are_well, rows_are_few, rows_can_be_told,
-    workloads_stand_for_their_pods_to_strangers,
 };
 pub use peer_text::print_peer;
 pub use side::Side;

@@ -11,10 +11,10 @@ use crate::sided_requirement::SidedRequirement;
 use np_base::{NoMemory, Text};
 use np_labels::{Requirement, Selector};
 use np_model::{
-    AdminPeer, AdminPolicy, AdminRule, BasePolicy, Direction, Estate, NetPeer, NetPolicy, NetRule,
-    Pod, Subject,
+    AdminPeer, AdminPolicy, AdminRule, BasePolicy, Direction, Estate, NetPeer, NetPolicy, Pod,
+    Subject,
 };
-use np_rules::{admin_policy_selects, admin_rules_of, net_policy_selects};
+use np_rules::{admin_policy_selects, admin_rules_of, net_policy_selects, net_rules_of};
 use std::alloc::Global;
 
 /// The requirements that the peers mention of the rules that speak of a pod in a direction, in the order in which these
@@ -68,28 +68,10 @@ fn add_net_policies(
 {
     for policy in policies {
         if net_policy_selects(policy, near) {
-            add_net_rules(
-                made,
-                policy.namespace.as_str(),
-                net_rules_of(policy, direction),
-            )?;
+            add_net_rules(made, policy, direction)?;
         }
     }
     Ok(())
-}
-
-// The rules of a direction, none where it is not among the policy's types.
-fn net_rules_of(policy: &NetPolicy, direction: Direction) -> &[NetRule]
-    ensures { result.now ≡ unwrap_or (places.net_rules_of direction policy.now) [] }
-{
-    let rules = match direction {
-        Direction::Ingress => policy.ingress.as_ref(),
-        Direction::Egress => policy.egress.as_ref(),
-    };
-    match rules {
-        Some(rules) => rules.items(),
-        None => &[],
-    }
 }
 
 // Adds what the rules mention of the baseline, where there is one and it selects the pod.
@@ -169,16 +151,18 @@ fn add_admin_peer(made: &mut Vec<SidedRequirement>, peer: &AdminPeer) -> Result<
     }
 }
 
-// Adds what rules of a NetworkPolicy of this namespace mention.
+// Adds what the rules of a NetworkPolicy mention, of which there are none where the direction is not among its types.
 fn add_net_rules(
     made: &mut Vec<SidedRequirement>,
-    namespace: &str,
-    rules: &[NetRule],
+    policy: &NetPolicy,
+    direction: Direction,
 ) -> Result<(), NoMemory>
-    ensures { OnOk result (made.new.items ≡ made.old.items ++ flat_map (spec.of_net_rule namespace.now) rules.now) }
+    ensures { OnOk result (made.new.items ≡ made.old.items
+        ++ flat_map (spec.of_net_rule policy.now.namespace) (unwrap_or (places.net_rules_of direction policy.now) [])) }
 {
+    let rules = net_rules_of(policy, direction).unwrap_or(&[]);
     for rule in rules {
-        add_net_peers(made, namespace, rule.peers.items())?;
+        add_net_peers(made, policy.namespace.as_str(), rule.peers.items())?;
     }
     Ok(())
 }

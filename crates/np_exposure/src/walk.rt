@@ -1,5 +1,5 @@
 //! The walk over the requirements.
-ghost use Rattle.std.specs.Prelude.{◌≡◌, ◌≤◌, IfOk, IsTrue};
+ghost use Rattle.std.specs.Prelude.{◌≡◌, ◌<◌, IfOk, IsTrue};
 ghost use Rattle.np_exposure.specs.Prelude.{AreWalked, IsExposure, IsLeaf, IsState, StandFor, StandForAll, are_at};
 ghost use Rattle.np_exposure.specs.steps.Walks as walks;
 
@@ -15,24 +15,23 @@ use np_conns::ConnSet;
 use np_rules::{Stranger, StrangerRules};
 use np_tiers::verdict_set;
 use std::alloc::Global;
-use std::sync::ledger::Ledger;
+use std::marker::Brand;
+use std::sync::ledger::{Blank, Ledger};
 
 /// The rows of the requirements that are left, with the choices that are left. Where a requirement can be both met and
 /// missed, the case with fewer choices is a call of its own, and the other goes on here. So calls stand at most 16 deep in
 /// one another, since each has at most half of the patterns, of which there are 65,536 at most. Where one choice is left at
 /// each key, no more requirements are asked. Rules of NetworkPolicies are settled on the way, as far as the choices tell.
-pub(crate) fn rows_of<'a, L: Ledger>(
+pub(crate) fn rows_of<'a>(
     alloc: Global,
     rules: &StrangerRules<'_>,
     asked: &'a [SidedRequirement],
     left: &mut Left<'_, '_>,
-    steps: &mut Steps<L>,
 ) -> Result<Vec<OpenRow<'a>>, NoMemory>
     requires state { IsState left.old.state.items }
     requires keys { IsTrue (are_at left.old.state.items asked.now) }
     requires net { StandForAll rules.now left.old.state.items left.old.net }
-    ensures rows { IfOk result (λ rows. AreWalked rules.now asked.now left.old.state.items rows.items) }
-    ensures least { steps.old ≤ steps.new }
+    ensures { IfOk result (λ rows. AreWalked rules.now asked.now left.old.state.items rows.items) }
 {
     let mut more = still_asked(asked, &left.state);
     let mut pending = Seq::new(alloc);
@@ -40,7 +39,7 @@ pub(crate) fn rows_of<'a, L: Ledger>(
         let aside = next_step(alloc, rules.namespace(), first, left)?;
         more = still_asked(rest, &left.state);
         if let Some(mut aside) = aside {
-            let rows = rows_of(alloc, rules, rest, &mut aside.left, steps)?;
+            let rows = rows_of(alloc, rules, rest, &mut aside.left)?;
             pending.push(Pending {
                 asked: first,
                 wanted: aside.wanted,
@@ -48,7 +47,7 @@ pub(crate) fn rows_of<'a, L: Ledger>(
             })?;
         }
     }
-    let last = leaf(alloc, rules, left, steps)?;
+    let last = leaf(alloc, rules, left)?;
     all_joined(pending, last)
 }
 
@@ -60,36 +59,37 @@ fn still_asked<'a>(left: &'a [SidedRequirement], state: &[KeyChoices<'_>]) -> &'
 }
 
 // One row of the exposure of a hypothetical pod with labels among the choices.
-fn leaf<'a, L: Ledger>(
+fn leaf<'a>(
     alloc: Global,
     rules: &StrangerRules<'_>,
     left: &Left<'_, '_>,
-    steps: &mut Steps<L>,
 ) -> Result<Vec<OpenRow<'a>>, NoMemory>
     requires state { IsState left.now.state.items }
     requires net { StandForAll rules.now left.now.state.items left.now.net }
-    ensures rows { IfOk result (λ rows. IsLeaf rules.now left.now.state.items rows.items) }
-    ensures least { steps.old ≤ steps.new }
+    ensures { IfOk result (λ rows. IsLeaf rules.now left.now.state.items rows.items) }
 {
     let stranger = stranger_of(alloc, &left.state)?;
-    let conns = exposed(alloc, rules, &left.net, &stranger, steps)?;
+    let conns = exposed::<Brand>(alloc, rules, &left.net, &stranger, Blank::new(1))?;
     OpenRow::alone(alloc, conns)
 }
 
-// What the rules allow a stranger.
+// What the rules allow a stranger. They are counted, and nobody asks how many they were.
 fn exposed<L: Ledger>(
     alloc: Global,
     rules: &StrangerRules<'_>,
     net: &OpenRules<'_>,
     stranger: &Stranger,
-    steps: &mut Steps<L>,
+    blank: Blank,
 ) -> Result<ConnSet, NoMemory>
-    requires { StandFor rules.now net.now stranger.now }
-    ensures exposure { IfOk result (IsExposure rules.now stranger.now) }
-    ensures least { steps.old ≤ steps.new }
+    requires net { StandFor rules.now net.now stranger.now }
+    requires name { blank.name ≡ L.name }
+    requires parts { blank.parts ≡ L.parts }
+    requires some { 0 < blank.parts }
+    ensures { IfOk result (IsExposure rules.now stranger.now) }
 {
+    let mut steps: Steps<L> = Steps::new(blank);
     let permitted = net.permitted(alloc, rules.namespace(), stranger)?;
-    let layer = rules.layer(alloc, stranger, permitted, steps)?;
+    let layer = rules.layer(alloc, stranger, permitted, &mut steps)?;
     let conns = verdict_set(alloc, &layer)?;
     Ok(conns)
 }

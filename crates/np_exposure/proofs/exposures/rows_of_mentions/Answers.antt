@@ -7,7 +7,7 @@ use Rattle.np_rules.specs.Prelude.{PodSide}
 use Rattle.np_exposure.proofs.exposures.rows_of_mentions.Goals as goal
 
 pub rows_of_labels-requires : goal.rows_of_labels-requires
-rows_of_labels-requires g c =
+rows_of_labels-requires c =
     let first : map choices_of c.deref-2.result.now ≡ choices_at_first c.args.mentions.items = ap (map choices_of)
     (c.deref-2.ensures.value ∙ c.in_ok-labels.ensures ∙ ap labels_of c.deref.ensures.value) in
     let asked : c.deref-3.result.now ≡ each_once c.args.mentions.items = c.deref-3.ensures.value ∙ c.in_ok-asked.ensures in
@@ -17,8 +17,8 @@ rows_of_labels-requires g c =
           (subst (λ (all : List SidedRequirement). are_at (choices_at_first c.args.mentions.items) all ≡ true) (sym asked) (are_at-first c.args.mentions.items));
     }
 
-pub returns-clause-rows : goal.returns-clause-rows
-returns-clause-rows g c =
+pub returns : goal.returns
+returns c =
     let first : map choices_of c.deref-2.result.now ≡ choices_at_first c.args.mentions.items = ap (map choices_of)
     (c.deref-2.ensures.value ∙ c.in_ok-labels.ensures ∙ ap labels_of c.deref.ensures.value) in
     let asked : c.deref-3.result.now ≡ each_once c.args.mentions.items = c.deref-3.ensures.value ∙ c.in_ok-asked.ensures in
@@ -26,4 +26,4 @@ returns-clause-rows g c =
     (λ rows walked. subst (λ (side : PodSide). AreWalked side (each_once c.args.mentions.items) (choices_at_first c.args.mentions.items) rows) c.in_ok-rules.ensures
     (subst (λ (all : List SidedRequirement). AreWalked c.in_ok-rules.rules all (choices_at_first c.args.mentions.items) rows) asked
     (subst (λ (state : List Choices). AreWalked c.in_ok-rules.rules c.deref-3.result.now state rows) first walked)))
-    c.rows_of_labels.ensures.rows
+    c.rows_of_labels.ensures

@@ -7,7 +7,7 @@ use Rattle.np_exposure.specs.Prelude.{AreWalked, StandForAll, are_at}
 use Rattle.np_exposure.proofs.walk.+rows_of.Goals as goal
 
 pub loop-first-init : goal.loop-first-init
-loop-first-init g t c = record {
+loop-first-init t c = record {
   state = c.requires.state;
   keys = still-at c.args.asked.now c.still_asked-more.result.now c.args.left.now.state.items c.deref.result.now c.deref.ensures.value c.still_asked-more.ensures c.requires.keys;
   shorter = still-short c.args.asked.now c.still_asked-more.result.now c.deref.result.now c.still_asked-more.ensures;
@@ -17,11 +17,10 @@ loop-first-init g t c = record {
       c.requires.state c.requires.keys c.deref.ensures.value c.still_asked-more.ensures
       (filled-none c.args.rules.now c.args.asked.now c.args.left.now.state.items c.new-pending.result c.new-pending.ensures);
   net = c.requires.net;
-  least = omega arith;
 }
 
 pub rows_of-requires : goal.rows_of-requires
-rows_of-requires g t c κs within =
+rows_of-requires t c κs within =
     let keys : are_at c.in-Some-aside.aside.left.state.items c.in-Some.rest.now ≡ true =
     aside-at c.in-Some.first.now c.loop-first.more.now c.in-Some.rest.now c.loop-first.left.state.items c.next_step.new.left.state.items c.in_ok-aside.aside c.in-Some-aside.aside
     c.in-Some.ensures.cases.0 c.in-Some-aside.is c.in_ok-aside.ensures.step c.loop-first.invariant.keys in
@@ -31,7 +30,7 @@ rows_of-requires g t c κs within =
     search rules
 
 pub loop-first-preserved-in-Some-aside : goal.loop-first-preserved-in-Some-aside
-loop-first-preserved-in-Some-aside g t c =
+loop-first-preserved-in-Some-aside t c =
     let keys : are_at c.next_step.new.left.state.items c.in-Some.rest.now ≡ true =
     step-at c.in-Some.first.now c.loop-first.more.now c.in-Some.rest.now c.loop-first.left.state.items c.next_step.new.left.state.items c.in_ok-aside.aside c.in-Some.ensures.cases.0
     c.in_ok-aside.ensures.step c.loop-first.invariant.keys in
@@ -51,15 +50,14 @@ loop-first-preserved-in-Some-aside g t c =
           c.in_ok-aside.ensures.next keys c.deref-in-Some.ensures.value c.still_asked-more-in-Some.ensures
           (filled-joined c.args.rules.now c.in-Some.first.now c.loop-first.more.now c.in-Some.rest.now c.loop-first.left.state.items c.next_step.new.left.state.items c.loop-first.pending _
           c.in-Some.ensures.cases.0 c.loop-first.invariant.filled c.in_ok-aside.aside c.in-Some-aside.aside _ c.push.new.self c.in-Some-aside.is c.in_ok-aside.ensures.step
-          c.in_ok-push.ensures.ok refl refl c.in_ok-rows.ensures.rows);
+          c.in_ok-push.ensures.ok refl refl c.in_ok-rows.ensures);
       net =
           left-stands c.args.rules.now c.in-Some.first.now c.loop-first.left c.next_step.new.left c.in_ok-aside.aside c.namespace.result.now
           c.namespace.ensures c.in_ok-aside.ensures.step c.in_ok-aside.ensures.net c.loop-first.invariant.net;
-      least = omega (arith, c.loop-first.invariant.least, c.in_ok-rows.ensures.least);
     }
 
 pub loop-first-preserved : goal.loop-first-preserved
-loop-first-preserved g t c =
+loop-first-preserved t c =
     let keys : are_at c.next_step.new.left.state.items c.in-Some.rest.now ≡ true =
     step-at c.in-Some.first.now c.loop-first.more.now c.in-Some.rest.now c.loop-first.left.state.items c.next_step.new.left.state.items c.in_ok-aside.aside c.in-Some.ensures.cases.0
     c.in_ok-aside.ensures.step c.loop-first.invariant.keys in
@@ -82,12 +80,11 @@ loop-first-preserved g t c =
       net =
           left-stands c.args.rules.now c.in-Some.first.now c.loop-first.left c.next_step.new.left c.in_ok-aside.aside c.namespace.result.now
           c.namespace.ensures c.in_ok-aside.ensures.step c.in_ok-aside.ensures.net c.loop-first.invariant.net;
-      least = c.loop-first.invariant.least;
     }
 
-pub returns-clause-rows : goal.returns-clause-rows
-returns-clause-rows g t c =
+pub returns : goal.returns
+returns t c =
     IfOk-weaker c.all_joined.result _ _
     (λ rows fills. c.loop-first.invariant.filled c.in_ok-last.last.items rows.items
-    (walked-leaf c.args.rules.now c.loop-first.more.now c.loop-first.left.state.items _ c.in_ok-last.last.items c.in_default.ensures.cases refl c.in_ok-last.ensures.rows) fills)
+    (walked-leaf c.args.rules.now c.loop-first.more.now c.loop-first.left.state.items _ c.in_ok-last.last.items c.in_default.ensures.cases refl c.in_ok-last.ensures) fills)
     c.all_joined.ensures
