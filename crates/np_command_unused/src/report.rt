@@ -1,30 +1,23 @@
 //! `unused`: the rules that decide nothing.
-ghost use Rattle.std.specs.Prelude.{◌≡◌, ◌≤◌, All, IfOk, Ok, flat_map, string_bytes};
+ghost use Rattle.std.specs.Prelude.{◌≡◌, All, IfOk, Ok, flat_map, string_bytes};
 ghost use Rattle.np_command.specs.Prelude.{Wrote, sunk};
 ghost use Rattle.np_command_unused.specs.Report as spec;
 ghost use Rattle.np_unused.specs.Prelude.{IsRuleOf};
 
-use np_base::{NoMemory, Steps};
+use np_base::NoMemory;
 use np_command::Failure;
 use np_fold::Folded;
 use np_io::{Sink, write_whole};
 use np_model::Estate;
 use np_unused::{RuleRef, print_rule, unused_rules};
 use std::alloc::Global;
-use std::sync::ledger::Ledger;
 
 /// Writes the rules that decide nothing, each on a line of its own.
 #[tactic(auto, unfolding(crate::specs::Report::unused_text))]
-pub fn unused<O: Sink, L: Ledger>(
-    alloc: Global,
-    folded: &Folded,
-    out: &mut O,
-    steps: &mut Steps<L>,
-) -> Result<(), Failure>
-    ensures wrote { Wrote (sunk O.taken O.faults out.old out.new) (Ok (spec.unused_text folded.now)) result }
-    ensures least { steps.old ≤ steps.new }
+pub fn unused<O: Sink>(alloc: Global, folded: &Folded, out: &mut O) -> Result<(), Failure>
+    ensures { Wrote (sunk O.taken O.faults out.old out.new) (Ok (spec.unused_text folded.now)) result }
 {
-    let rules = unused_rules(alloc, folded, steps)?;
+    let rules = unused_rules(alloc, folded)?;
     let lines = rule_lines(alloc, folded.estate(), rules.items())?;
     write_whole(out, lines.as_bytes())?;
     Ok(())

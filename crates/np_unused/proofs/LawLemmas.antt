@@ -3,7 +3,7 @@ use Rattle.std.proofs.Common.{◌≡◌, ◌↔◌, ℕ, zero, suc, ◌<◌, Lis
 use Rattle.std.specs.List.{Contains}
 use Rattle.std.specs.Option.{option_map_or}
 use Rattle.std.proofs.lemmas.Bool.{false≢true, not-true}
-use Rattle.std.proofs.lemmas.List.Elements.{All-cons, All-contains, All-head, All-nil, All-tail, Contains-append_right}
+use Rattle.std.proofs.lemmas.List.Elements.{All-cons, All-contains, All-contains_itself, All-head, All-nil, All-tail, All-weaker, Contains-append_right}
 use Rattle.np_unused.specs.Prelude.{End, EstateLists, Family, IsListedPacket, IsRuleOf, PortSpot, RuleName, RuleRef, StandsIn, all_rules, is_used, rule_in, rule_name, unused_of}
 use Rattle.np_explain.proofs.SameDecider.{same_rule-Decides}
 use Rattle.np_explain.specs.Prelude.{decider_between, same_rule}
@@ -52,6 +52,10 @@ unused_is lists rule has =
     let both = All-contains (λ other. IsRuleOf lists other × (not (is_used lists other) ≡ true)) (filter (λ other. not (is_used lists other)) (all_rules lists)) rule
     (filter_all (IsRuleOf lists) (λ other. not (is_used lists other)) (all_rules lists) (rules_are_rules lists)) has in
     (both.0, not-true _ both.1)
+
+-- so each of them is a rule of the estate
+pub unused_rules_of : (lists : EstateLists) → All (IsRuleOf lists) (unused_of lists)
+unused_rules_of lists = All-weaker (Contains (unused_of lists)) (IsRuleOf lists) (λ rule among. (unused_is lists rule among).0) (unused_of lists) (All-contains_itself (unused_of lists))
 
 is_unused : (lists : EstateLists) (rule : RuleRef) → IsRuleOf lists rule → is_used lists rule ≡ false → Contains (unused_of lists) rule
 unfolding unused_of

@@ -1,5 +1,5 @@
 //! The search for the rules that are used.
-ghost use Rattle.std.specs.Prelude.{◌≡◌, ◌<◌, ◌≤◌, Some, slice_get, length, IfOk, OnOk};
+ghost use Rattle.std.specs.Prelude.{◌≡◌, ◌<◌, Some, slice_get, length, IfOk, OnOk};
 ghost use Rattle.std.specs.List.{Contains};
 ghost use Rattle.np_unused.specs.declared.kind_pods.KindPod.{KindPod as SpecPod};
 ghost use Rattle.np_unused.specs.steps.Kinds.{is_asked};
@@ -18,7 +18,8 @@ use np_model::{Direction, Estate};
 use np_reach::Reach;
 use np_rules::{LayerRules, PodRules};
 use std::alloc::Global;
-use std::sync::ledger::Ledger;
+use std::marker::Brand;
+use std::sync::ledger::{Blank, Ledger};
 
 /// The kinds of workloads of a cluster in a direction: the pods that stand for them, and which of them the side of each may
 /// let through at all.
@@ -56,16 +57,14 @@ impl Search<'_, '_, '_> {
 
 /// The rules of a direction that are used, by what the first pods of the kinds may let through. The rules of each kind of
 /// pods are looked at with all addresses as far ends, and then with each kind, until all of them are known.
-pub(crate) fn used_rules<L: Ledger>(
+pub(crate) fn used_rules(
     alloc: Global,
     folded: &Folded,
     reach: &Reach,
     direction: Direction,
-    steps: &mut Steps<L>,
 ) -> Result<UsedRules, NoMemory>
     requires reach { reach.now ≡ reach_of folded.now direction (first_ends folded.now) }
-    ensures all { IfOk result (λ used. Finds folded.now direction used) }
-    ensures least { steps.old ≤ steps.new }
+    ensures { IfOk result (λ used. Finds folded.now direction used) }
 {
     let pods = kind_pods(alloc, folded)?;
     let kinds = Kinds {
@@ -77,23 +76,17 @@ pub(crate) fn used_rules<L: Ledger>(
     };
     let mut used = UsedRules::none(alloc);
     for near in 0..pods.len() {
-        search_side(&kinds, near, &mut used, steps)?;
+        search_side(&kinds, near, &mut used)?;
     }
     Ok(used)
 }
 
 // Looks for the rules of the pod that stands for a kind.
-fn search_side<L: Ledger>(
-    kinds: &Kinds<'_, '_>,
-    near: usize,
-    used: &mut UsedRules,
-    steps: &mut Steps<L>,
-) -> Result<(), NoMemory>
+fn search_side(kinds: &Kinds<'_, '_>, near: usize, used: &mut UsedRules) -> Result<(), NoMemory>
     requires kinds { AreKinds kinds.now }
     requires near { near < length kinds.now.pods.now }
-    ensures searched { OnOk result (Searched kinds.now.estate.now kinds.now.direction
+    ensures { OnOk result (Searched kinds.now.estate.now kinds.now.direction
         (KnowsKind kinds.now.estate.now kinds.now.direction kinds.now.pods.now near) used.old used.new) }
-    ensures least { steps.old ≤ steps.new }
 {
     let pod = kinds.pods[near].pod;
     let side = PodRules::of(kinds.alloc, kinds.estate, pod, kinds.direction)?;
@@ -104,79 +97,73 @@ fn search_side<L: Ledger>(
         side: &side,
         rules: &rules,
     };
-    search_ends(&search, used, steps)
+    search_ends(&search, used)
 }
 
 // Looks for the rules of a side with all far ends, unless all are known.
-fn search_ends<L: Ledger>(
-    search: &Search<'_, '_, '_>,
-    used: &mut UsedRules,
-    steps: &mut Steps<L>,
-) -> Result<(), NoMemory>
+fn search_ends(search: &Search<'_, '_, '_>, used: &mut UsedRules) -> Result<(), NoMemory>
     requires { IsSearch search.now }
-    ensures searched { OnOk result (Searched search.now.side.now.lists search.now.side.now.direction
+    ensures { OnOk result (Searched search.now.side.now.lists search.now.side.now.direction
         (KnowsSide search.now.side.now search.now.kinds.pods.now search.now.near) used.old used.new) }
-    ensures least { steps.old ≤ steps.new }
 {
     if used.has_all(search.rules) {
         return Ok(());
     }
-    search_addresses(search, used, steps)?;
-    search_families(search, search.kinds.estate.families(), used, steps)
+    search_addresses::<Brand>(search, used, Blank::new(1))?;
+    search_families(search, search.kinds.estate.families(), used)
 }
 
 // Looks for the rules of a side with all addresses as far ends.
 fn search_addresses<L: Ledger>(
     search: &Search<'_, '_, '_>,
     used: &mut UsedRules,
-    steps: &mut Steps<L>,
+    blank: Blank,
 ) -> Result<(), NoMemory>
-    requires { IsSearch search.now }
-    ensures searched { OnOk result (Searched search.now.side.now.lists search.now.side.now.direction
+    requires search { IsSearch search.now }
+    requires name { blank.name ≡ L.name }
+    requires parts { blank.parts ≡ L.parts }
+    requires some { 0 < blank.parts }
+    ensures { OnOk result (Searched search.now.side.now.lists search.now.side.now.direction
         (KnowsAll is_address_spot search.now.side.now with_addresses) used.old used.new) }
-    ensures least { steps.old ≤ steps.new }
 {
-    let layer = search.side.address_layer(search.kinds.alloc, steps)?;
+    let mut steps: Steps<L> = Steps::new(blank);
+    let layer = search.side.address_layer(search.kinds.alloc, &mut steps)?;
     used.note_layer(search.kinds.alloc, layer, search.rules)
 }
 
 // Looks for the rules of a side with the pods of all kinds as far ends, in packets of the families of the estate.
-fn search_families<L: Ledger>(
+fn search_families(
     search: &Search<'_, '_, '_>,
     families: &[Family],
     used: &mut UsedRules,
-    steps: &mut Steps<L>,
 ) -> Result<(), NoMemory>
     requires search { IsSearch search.now }
     requires families { families.now ≡ families_of search.now.side.now.lists.pods }
-    ensures searched { OnOk result (Searched search.now.side.now.lists search.now.side.now.direction
+    ensures { OnOk result (Searched search.now.side.now.lists search.now.side.now.direction
         (KnowsFamilies search.now.side.now search.now.kinds.pods.now search.now.near) used.old used.new) }
-    ensures least { steps.old ≤ steps.new }
 {
     for family in families {
-        search_pods(search, *family, used, steps)?;
+        search_pods(search, *family, used)?;
     }
     Ok(())
 }
 
 // Looks for the rules of a side with the pods of all kinds as far ends, until all are known.
-fn search_pods<L: Ledger>(
+fn search_pods(
     search: &Search<'_, '_, '_>,
     family: Family,
     used: &mut UsedRules,
-    steps: &mut Steps<L>,
 ) -> Result<(), NoMemory>
     requires search { IsSearch search.now }
     requires family { Contains (families_of search.now.side.now.lists.pods) family }
-    ensures searched { OnOk result (Searched search.now.side.now.lists search.now.side.now.direction
+    ensures { OnOk result (Searched search.now.side.now.lists search.now.side.now.direction
         (KnowsPods search.now.side.now search.now.kinds.pods.now search.now.near family) used.old used.new) }
-    ensures least { steps.old ≤ steps.new }
 {
     for kind in 0..search.kinds.pods.len() {
         if used.has_all(search.rules) {
             return Ok(());
         }
-        search_kind(search, kind, family, used, steps)?;
+        search_kind::<Brand>(search, kind, family, used, Blank::new(1))?;
     }
     Ok(())
 }
@@ -187,22 +174,25 @@ fn search_kind<L: Ledger>(
     kind: usize,
     family: Family,
     used: &mut UsedRules,
-    steps: &mut Steps<L>,
+    blank: Blank,
 ) -> Result<(), NoMemory>
     requires search { IsSearch search.now }
     requires kind { kind < length search.now.kinds.pods.now }
     requires family { Contains (families_of search.now.side.now.lists.pods) family }
-    ensures searched { OnOk result (Searched search.now.side.now.lists search.now.side.now.direction
+    requires name { blank.name ≡ L.name }
+    requires parts { blank.parts ≡ L.parts }
+    requires some { 0 < blank.parts }
+    ensures { OnOk result (Searched search.now.side.now.lists search.now.side.now.direction
         (KnowsFar search.now.side.now search.now.kinds.pods.now search.now.near family kind) used.old used.new) }
-    ensures least { steps.old ≤ steps.new }
 {
     if !search.may_tell(kind, used) {
         return Ok(());
     }
     let far = search.kinds.pods[kind].pod;
+    let mut steps: Steps<L> = Steps::new(blank);
     let layer = search
         .side
-        .pod_layer(search.kinds.alloc, far, family, steps)?;
+        .pod_layer(search.kinds.alloc, far, family, &mut steps)?;
     used.note_layer(search.kinds.alloc, layer, search.rules)
 }
 

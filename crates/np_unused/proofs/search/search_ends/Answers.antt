@@ -6,8 +6,8 @@ use Rattle.np_unused.specs.Prelude.{EstateLists, KnowsAll, KnowsFamilies, KnowsS
 use Rattle.np_model.specs.Prelude.{families_of}
 use Rattle.np_rules.specs.Prelude.{is_address_spot, with_addresses}
 
-pub returns-then-has_all-clause-searched : goal.returns-then-has_all-clause-searched
-returns-then-has_all-clause-searched g c =
+pub returns-then-has_all : goal.returns-then-has_all
+returns-then-has_all c =
     let side = c.args.search.now.side.now in
     let kinds = c.args.search.now.kinds.pods.now in
     let near = c.args.search.now.near in
@@ -15,10 +15,10 @@ returns-then-has_all-clause-searched g c =
     (all_known_of side c.requires.lawful c.args.search.now.rules.now c.requires.rules kinds near c.args.used.now c.has_all.result c.has_all.ensures c.if-has_all.true)
 
 pub search_families-requires-clause-families : goal.search_families-requires-clause-families
-search_families-requires-clause-families g c = c.families.ensures ∙ ap (λ (lists : EstateLists). families_of lists.pods) c.requires.estate_is
+search_families-requires-clause-families c = c.families.ensures ∙ ap (λ (lists : EstateLists). families_of lists.pods) c.requires.estate_is
 
-pub returns-clause-searched : goal.returns-clause-searched
-returns-clause-searched g c =
+pub returns : goal.returns
+returns c =
     let side = c.args.search.now.side.now in
     let kinds = c.args.search.now.kinds.pods.now in
     let near = c.args.search.now.near in
@@ -27,5 +27,5 @@ returns-clause-searched g c =
     IfOk-weaker c.search_families.result _ _
     (λ _ later. searched_both side.lists side.direction (KnowsAll is_address_spot side with_addresses) (KnowsFamilies side kinds near) (KnowsSide side kinds near) c.args.used.now middle new
     (λ grows addresses pods. record { addresses = knows_all_grows is_address_spot side with_addresses middle new grows addresses; pods = pods })
-    c.in_ok-search_addresses.ensures.searched later)
-    c.search_families.ensures.searched
+    c.in_ok-search_addresses.ensures later)
+    c.search_families.ensures

@@ -7,14 +7,12 @@ use Rattle.np_unused.proofs.StepLemmas.{Below, KnowsFamily, knows_pods_grows, mo
 use Rattle.np_unused.proofs.search.search_families.Goals as goal
 
 pub loop-family-init : goal.loop-family-init
-loop-family-init g c =
-    let side = c.args.search.now.side.now in record {
-      searched = none_searched side.lists side.direction (KnowsFamily side c.args.search.now.kinds.pods.now c.args.search.now.near c.args.families.now) c.args.used.now;
-      least = omega arith;
-    }
+loop-family-init c =
+    let side = c.args.search.now.side.now in
+    none_searched side.lists side.direction (KnowsFamily side c.args.search.now.kinds.pods.now c.args.search.now.near c.args.families.now) c.args.used.now
 
 pub search_pods-requires-clause-family : goal.search_pods-requires-clause-family
-search_pods-requires-clause-family g c =
+search_pods-requires-clause-family c =
     subst (λ (all : List Family). Contains all (get_or c.args.families.now c.loop-family.family-index Four)) c.requires.families (
       c.loop-family.family-index,
       omega arith,
@@ -23,23 +21,21 @@ search_pods-requires-clause-family g c =
     )
 
 pub loop-family-preserved : goal.loop-family-preserved
-loop-family-preserved g c =
+loop-family-preserved c =
     let side = c.args.search.now.side.now in
     let kinds = c.args.search.now.kinds.pods.now in
     let near = c.args.search.now.near in
     let families = c.args.families.now in
-    let place = c.loop-family.family-index in record {
-      searched = more_searched side.lists side.direction (KnowsFamily side kinds near families)
-          (λ k old new grows known family at. knows_pods_grows side kinds near family old new grows (known family at)) place c.args.used.now c.loop-family.used c.search_pods.new.used
-          c.loop-family.invariant.searched
-          (searched_as side.lists side.direction (KnowsPods side kinds near (get_or families place Four)) (KnowsFamily side kinds near families place) c.loop-family.used c.search_pods.new.used
-          (λ known family at. subst (λ (f : Family). KnowsPods side kinds near f c.search_pods.new.used) (get_or_from_slice_get families place family Four at) known)
-          c.in_ok-search_pods.ensures.searched);
-      least = omega (arith, c.in_ok-search_pods.ensures.least, c.loop-family.invariant.least);
-    }
+    let place = c.loop-family.family-index in
+    more_searched side.lists side.direction (KnowsFamily side kinds near families)
+    (λ k old new grows known family at. knows_pods_grows side kinds near family old new grows (known family at)) place c.args.used.now c.loop-family.used c.search_pods.new.used
+    c.loop-family.invariant
+    (searched_as side.lists side.direction (KnowsPods side kinds near (get_or families place Four)) (KnowsFamily side kinds near families place) c.loop-family.used c.search_pods.new.used
+    (λ known family at. subst (λ (f : Family). KnowsPods side kinds near f c.search_pods.new.used) (get_or_from_slice_get families place family Four at) known)
+    c.in_ok-search_pods.ensures)
 
-pub returns-clause-searched : goal.returns-clause-searched
-returns-clause-searched g c =
+pub returns : goal.returns
+returns c =
     let side = c.args.search.now.side.now in
     let kinds = c.args.search.now.kinds.pods.now in
     let near = c.args.search.now.near in
@@ -48,4 +44,4 @@ returns-clause-searched g c =
     (λ known family has.
     let listed = subst (λ (all : List Family). Contains all family) (sym c.requires.families) has in
     known listed.0 (omega (arith, listed.1)) family (slice_get-get_or families listed.0 family listed.1 ∙ ap Some listed.2))
-    c.loop-family.invariant.searched
+    c.loop-family.invariant

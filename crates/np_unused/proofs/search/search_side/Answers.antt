@@ -8,20 +8,20 @@ use Rattle.np_model.specs.Prelude.{IsFew}
 use Rattle.np_rules.specs.Prelude.{PodSide}
 
 pub of-requires : goal.of-requires
-of-requires g c =
+of-requires c =
     let kinds = c.args.kinds.now.pods.now in
     (own_kind c.args.kinds.now.estate.now c.requires.kinds.lawful kinds c.requires.kinds.pods c.args.near (pod_of_kind kinds c.args.near) (kind_at kinds c.args.near c.requires.near)).0
 
 pub names-requires : goal.names-requires
-names-requires g c = record { few = subst (λ (side : PodSide). IsFew side.lists) (sym c.in_ok-side.ensures) c.requires.kinds.lawful.few }
+names-requires c = record { few = subst (λ (side : PodSide). IsFew side.lists) (sym c.in_ok-side.ensures) c.requires.kinds.lawful.few }
 
 pub search_ends-requires : goal.search_ends-requires
-search_ends-requires g c = search_is c.args.kinds.now c.requires.kinds c.args.near c.requires.near c.in_ok-side.side c.in_ok-side.ensures c.in_ok-rules.rules
+search_ends-requires c = search_is c.args.kinds.now c.requires.kinds c.args.near c.requires.near c.in_ok-side.side c.in_ok-side.ensures c.in_ok-rules.rules
     (record { admin = c.in_ok-rules.ensures.admin; net = c.in_ok-rules.ensures.net; base = c.in_ok-rules.ensures.base })
 
-pub returns-clause-searched : goal.returns-clause-searched
-returns-clause-searched g c =
+pub returns : goal.returns
+returns c =
     IfOk-weaker c.search_ends.result _ _
     (λ _ searched. searched_side c.args.kinds.now.estate.now c.args.kinds.now.direction c.args.kinds.now.pods.now c.args.near c.in_ok-side.side c.in_ok-side.ensures c.args.used.now
     c.search_ends.new.used searched)
-    c.search_ends.ensures.searched
+    c.search_ends.ensures
