@@ -1,5 +1,5 @@
 //! `explain`: what decides between two ends.
-ghost use Rattle.std.specs.Prelude.{◌≡◌, ◌≤◌, IfOk, None, Some, if◌then◌else◌, string_bytes};
+ghost use Rattle.std.specs.Prelude.{◌≡◌, IfOk, None, Some, if◌then◌else◌, string_bytes};
 ghost use Rattle.np_command.specs.Prelude.{Gives, Puts, Writes, Wrote, sunk};
 ghost use Rattle.np_command_explain.specs.Report as spec;
 ghost use Rattle.np_command_explain.specs.steps.Explaining.{AreEnds, HasPods, IsAsked, head_line, parts_at, row_line};
@@ -9,7 +9,7 @@ ghost use Rattle.np_fold.specs.Prelude.{folding_of};
 
 use np_addr::{Address, Family};
 use np_args::EndWord;
-use np_base::{NoMemory, Seq, Steps, Text};
+use np_base::{NoMemory, Seq, Text};
 use np_command::{Failure, Fault, WriteFault, end_text, family_asked, workload_of};
 use np_conns::print_conns;
 use np_explain::{Explanation, Flow, Part, explain_sides, print_decider, same_sides};
@@ -19,7 +19,6 @@ use np_model::{Direction, Estate};
 use np_report::family_suffix;
 use np_rules::{End, direction_text};
 use std::alloc::Global;
-use std::sync::ledger::Ledger;
 
 /// An end that is asked about: an address, or the workload of a number.
 #[derive(Clone, Copy)]
@@ -47,19 +46,17 @@ pub struct Shown {
 /// `UnknownEnd` comes exactly where a word names no workload, with the first such word, and `SameEnd` exactly where both name
 /// one workload of one pod, before the first byte is written.
 #[tactic(auto, unfolding(crate::specs::Report::explain_reply))]
-pub fn explain<O: Sink, L: Ledger>(
+pub fn explain<O: Sink>(
     alloc: Global,
     folded: &Folded,
     from: &EndWord,
     to: &EndWord,
     out: &mut O,
-    steps: &mut Steps<L>,
 ) -> Result<(), Failure>
-    ensures wrote { Wrote (sunk O.taken O.faults out.old out.new) (spec.explain_reply from.now to.now folded.now) result }
-    ensures least { steps.old ≤ steps.new }
+    ensures { Wrote (sunk O.taken O.faults out.old out.new) (spec.explain_reply from.now to.now folded.now) result }
 {
     let ends = ends_named(alloc, folded, from, to)?;
-    let shown = explanations(alloc, folded.estate(), &ends, steps)?;
+    let shown = explanations(alloc, folded.estate(), &ends)?;
     let from = end_text(alloc, from)?;
     let to = end_text(alloc, to)?;
     write_shown(alloc, &from, &to, shown.items(), out)?;
@@ -154,52 +151,48 @@ fn destination_end(workloads: &Workloads, source: AskedEnd, destination: AskedEn
 
 // What is shown of two ends.
 #[tactic(auto, unfolding(crate::specs::Report::explanations))]
-fn explanations<L: Ledger>(
+fn explanations(
     alloc: Global,
     estate: &Estate,
     ends: &ExplainedEnds,
-    steps: &mut Steps<L>,
 ) -> Result<Seq<Shown>, NoMemory>
     requires lawful { IsLawful estate.now }
     requires ends { AreEnds estate.now ends.now }
-    ensures shown { IfOk result (λ shown. shown ≡ spec.explanations estate.now ends.now) }
-    ensures least { steps.old ≤ steps.new }
+    ensures { IfOk result (λ shown. shown ≡ spec.explanations estate.now ends.now) }
 {
     match family_asked(estate, ends.source, ends.destination) {
         Some(family) => {
-            let made = explanation_in(alloc, estate, ends, family, steps)?;
+            let made = explanation_in(alloc, estate, ends, family)?;
             let mut shown = Seq::new(alloc);
             shown.push(Shown { mark: None, made })?;
             Ok(shown)
         }
         None => {
-            let four = explanation_in(alloc, estate, ends, Family::Four, steps)?;
-            let six = explanation_in(alloc, estate, ends, Family::Six, steps)?;
+            let four = explanation_in(alloc, estate, ends, Family::Four)?;
+            let six = explanation_in(alloc, estate, ends, Family::Six)?;
             of_both(alloc, four, six)
         }
     }
 }
 
 // The explanation of two ends in a family.
-fn explanation_in<L: Ledger>(
+fn explanation_in(
     alloc: Global,
     estate: &Estate,
     ends: &ExplainedEnds,
     family: Family,
-    steps: &mut Steps<L>,
 ) -> Result<Explanation, NoMemory>
     requires lawful { IsLawful estate.now }
     requires ends { AreEnds estate.now ends.now }
     requires family { IsFamilyOf ends.now.source ends.now.destination family }
-    ensures made { IfOk result (λ made. made ≡ explanation_of estate.now ends.now.source ends.now.destination family) }
-    ensures least { steps.old ≤ steps.new }
+    ensures { IfOk result (λ made. made ≡ explanation_of estate.now ends.now.source ends.now.destination family) }
 {
     let flow = Flow {
         source: ends.source,
         destination: ends.destination,
         family,
     };
-    explain_sides(alloc, estate, &flow, steps)
+    explain_sides(alloc, estate, &flow)
 }
 
 // One of them where both sides have the same parts in both families, and else both, with their marks.
