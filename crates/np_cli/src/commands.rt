@@ -69,12 +69,12 @@ pub(crate) fn reply<O: Sink, L: Ledger>(
             };
             list(alloc, folded, asked, told, out, steps)?;
         }
-        Job::Explain { from, to, .. } => explain(alloc, folded, from, to, out, steps)?,
+        Job::Explain { from, to, .. } => explain(alloc, folded, from, to, out)?,
         Job::Exposure {
             workload,
             format,
             ..
-        } => exposure_of(alloc, folded, workload, *format, out, steps)?,
+        } => exposure_of(alloc, folded, workload, *format, out)?,
         Job::Evaluate {
             from,
             to,
@@ -88,7 +88,7 @@ pub(crate) fn reply<O: Sink, L: Ledger>(
             };
             evaluate(alloc, folded, &PacketWords { from, to, spot }, out, steps)?;
         }
-        Job::Unused { .. } => unused(alloc, folded, out, steps)?,
+        Job::Unused { .. } => unused(alloc, folded, out)?,
         Job::Check { .. } => return check_file(alloc, statement_of(texts), folded, out),
         Job::Flatten { .. } => flatten_in(alloc, folded, out, steps)?,
         Job::Sample { .. } => count_rows(alloc, folded, out, steps)?,

@@ -82,13 +82,11 @@ fn counted_answer<L: Ledger>(
         }
         Question::Flaws => flaws_text(alloc, folded.estate()),
         Question::Explained(source, destination, direction) => {
-            explained_text(alloc, folded, source, destination, direction, &mut steps)
+            explained_text(alloc, folded, source, destination, direction)
         }
-        Question::Exposed(pod, direction) => {
-            exposed_text(alloc, folded.estate(), pod, direction, &mut steps)
-        }
+        Question::Exposed(pod, direction) => exposed_text(alloc, folded.estate(), pod, direction),
         Question::Weight(pod, direction) => weight_text(alloc, folded.estate(), pod, direction),
-        Question::Unused => unused_text(alloc, folded, &mut steps),
+        Question::Unused => unused_text(alloc, folded),
         Question::Broken(file) => broken_text(alloc, folded, file),
         Question::Flat => flat_text(alloc, folded, &mut steps),
     }

@@ -2,7 +2,7 @@
 
 use crate::asked::{Question, expect_answer};
 use np_addr::Family;
-use np_base::{NoMemory, Seq, Steps, Text};
+use np_base::{NoMemory, Seq, Text};
 use np_conns::print_conns;
 use np_explain::{Flow, Part, explain, print_decider};
 use np_fold::Folded;
@@ -10,16 +10,14 @@ use np_model::Direction;
 use np_rules::{Decider, End, PolicyNames};
 use std::alloc::Global;
 use std::process::Abort;
-use std::sync::ledger::Ledger;
 
 /// What decides between two pods at a side.
-pub fn explained_text<L: Ledger>(
+pub fn explained_text(
     alloc: Global,
     folded: &Folded,
     source: u32,
     destination: u32,
     direction: Direction,
-    steps: &mut Steps<L>,
 ) -> Result<String, NoMemory> {
     let estate = folded.estate();
     let count = estate.pods().len();
@@ -31,7 +29,7 @@ pub fn explained_text<L: Ledger>(
         destination: End::Pod(destination),
         family: Family::Four,
     };
-    let parts = explain(alloc, estate, &flow, direction, steps)?;
+    let parts = explain(alloc, estate, &flow, direction)?;
     parts_text(alloc, direction, parts.items())
 }
 

@@ -1,25 +1,23 @@
 //! What pods that nobody has written yet could reach, and be reached by.
 
 use crate::asked::{Question, expect_answer};
-use np_base::{NoMemory, Steps};
+use np_base::NoMemory;
 use np_conns::print_conns;
 use np_exposure::{ExposureFault, ExposureRow, exposure, print_peer, weight};
 use np_model::{Direction, Estate};
 use std::alloc::Global;
-use std::sync::ledger::Ledger;
 
 /// The rows of the exposure of a pod, or why there are none.
-pub fn exposed_text<L: Ledger>(
+pub fn exposed_text(
     alloc: Global,
     estate: &Estate,
     pod: u32,
     direction: Direction,
-    steps: &mut Steps<L>,
 ) -> Result<String, NoMemory> {
     if pod as usize >= estate.pods().len() {
         return Ok(String::from_str(alloc, "no such pod")?);
     }
-    match exposure(alloc, estate, pod, direction, steps) {
+    match exposure(alloc, estate, pod, direction) {
         Ok(rows) => rows_text(alloc, rows.items()),
         Err(ExposureFault::TooManyPatterns { weight }) => {
             Ok(format!(in alloc; "TooManyPatterns {weight}")?)

@@ -3,20 +3,15 @@ ghost use Rattle.std.specs.Prelude.{All};
 ghost use Rattle.np_unused.specs.Prelude.{IsRuleOf};
 
 use crate::asked::{Question, expect_answer};
-use np_base::{NoMemory, Steps};
+use np_base::NoMemory;
 use np_fold::Folded;
 use np_model::Estate;
 use np_unused::{RuleRef, print_rule, unused_rules};
 use std::alloc::Global;
-use std::sync::ledger::Ledger;
 
 /// A line for each rule that decides nothing.
-pub fn unused_text<L: Ledger>(
-    alloc: Global,
-    folded: &Folded,
-    steps: &mut Steps<L>,
-) -> Result<String, NoMemory> {
-    let rules = unused_rules(alloc, folded, steps)?;
+pub fn unused_text(alloc: Global, folded: &Folded) -> Result<String, NoMemory> {
+    let rules = unused_rules(alloc, folded)?;
     rules_text(alloc, folded.estate(), rules.items())
 }
 
