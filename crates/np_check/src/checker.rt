@@ -11,7 +11,6 @@ ghost use Rattle.np_kinds.specs.Prelude.{IsWorkload, is_alone, pair_allows};
 use crate::addresses::first_from_addresses;
 use crate::asked::Asked;
 use crate::checking::first_from_works;
-use crate::counted;
 use crate::counterexample::Counterexample;
 use crate::statement::Statement;
 use np_addr::Family;
@@ -20,10 +19,9 @@ use np_conns::ConnSet;
 use np_fold::Folded;
 use np_kinds::{KindReach, Sides};
 use np_model::Direction;
-use np_table::AddressRow;
+use np_table::{AddressRow, address_rows_by_kind, set_by_kinds};
 use std::alloc::Global;
-use std::marker::{Brand, Model};
-use std::sync::ledger::Blank;
+use std::marker::Model;
 
 // From so many pairs a workload on it is worth it to find out first which kinds may send anything to which.
 const PAIRS_PER_WORKLOAD: u64 = 50;
@@ -153,8 +151,7 @@ impl<'a> Checker<'a> {
         ensures rows { IfOk result (λ made. made ≡ address_rows (estate_table self.old) work direction) }
         ensures same { self.new ≡ self.old }
     {
-        let blank = Blank::new(1);
-        counted::address_rows::<Brand>(self.alloc, &mut self.sides, work, direction, blank)
+        address_rows_by_kind(self.alloc, &mut self.sides, work, direction)
     }
 
     /// The protocols and ports that pass from a workload to another in a family, by the rules of their kinds. It is right of a
@@ -172,14 +169,6 @@ impl<'a> Checker<'a> {
             ≡ conns_of (pair_allows self.old (folding_of self.old) source destination family)) }
         ensures same { self.new ≡ self.old }
     {
-        let blank = Blank::new(1);
-        counted::passing::<Brand>(
-            self.alloc,
-            &mut self.sides,
-            source,
-            destination,
-            family,
-            blank,
-        )
+        set_by_kinds(self.alloc, &mut self.sides, source, destination, family)
     }
 }

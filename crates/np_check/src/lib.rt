@@ -5,7 +5,6 @@ mod addresses;
 mod asked;
 mod checker;
 mod checking;
-mod counted;
 mod counterexample;
 mod laws;
 mod order;

@@ -86,11 +86,11 @@ pub(crate) fn reply<O: Sink, L: Ledger>(
                 proto: *proto,
                 port: *port,
             };
-            evaluate(alloc, folded, &PacketWords { from, to, spot }, out, steps)?;
+            evaluate(alloc, folded, &PacketWords { from, to, spot }, out)?;
         }
         Job::Unused { .. } => unused(alloc, folded, out)?,
         Job::Check { .. } => return check_file(alloc, statement_of(texts), folded, out),
-        Job::Flatten { .. } => flatten_in(alloc, folded, out, steps)?,
+        Job::Flatten { .. } => flatten_in(alloc, folded, out)?,
         Job::Sample { .. } => count_rows(alloc, folded, out, steps)?,
     }
     Ok(true)

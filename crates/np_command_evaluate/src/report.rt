@@ -1,5 +1,5 @@
 //! `evaluate`: the verdict of one packet.
-ghost use Rattle.std.specs.Prelude.{◌≡◌, ◌≤◌, ◌<◌, ◌^◌, ◌++◌, IfOk, IfSome, codes, length, string_bytes};
+ghost use Rattle.std.specs.Prelude.{◌≡◌, ◌<◌, ◌^◌, ◌++◌, IfOk, IfSome, codes, length, string_bytes};
 ghost use Rattle.std.specs.List.{position};
 ghost use Rattle.std.specs.Str.{bytes_eq};
 ghost use Rattle.np_command.specs.Prelude.{Gives, Wrote, sunk};
@@ -9,7 +9,7 @@ ghost use Rattle.np_rules.specs.Prelude.{IsEndOf};
 
 use np_addr::Family;
 use np_args::EndWord;
-use np_base::{NoMemory, Steps, Text};
+use np_base::{NoMemory, Text};
 use np_command::{Failure, Fault, end_text, family_asked};
 use np_conns::PortSpot;
 use np_fold::Folded;
@@ -18,7 +18,6 @@ use np_model::{Estate, Pod};
 use np_report::family_suffix;
 use np_rules::{End, Packet, allows, said_text};
 use std::alloc::Global;
-use std::sync::ledger::Ledger;
 
 /// A packet as words ask for it, in every family: its two ends, and its protocol and port.
 #[derive(Drop)]
@@ -42,17 +41,15 @@ struct AskedPacket {
 /// verdicts of the list's two families differ. `UnknownEnd` comes exactly where a word names no listed pod, with the first
 /// such word, and `SameEnd` exactly where both name one pod.
 #[tactic(auto, unfolding(crate::specs::Report::evaluate_reply))]
-pub fn evaluate<O: Sink, L: Ledger>(
+pub fn evaluate<O: Sink>(
     alloc: Global,
     folded: &Folded,
     words: &PacketWords<'_>,
     out: &mut O,
-    steps: &mut Steps<L>,
 ) -> Result<(), Failure>
-    ensures wrote { Wrote (sunk O.taken O.faults out.old out.new)
+    ensures { Wrote (sunk O.taken O.faults out.old out.new)
         (spec.evaluate_reply words.now.from.now words.now.to.now words.now.spot folded.now)
         result }
-    ensures least { steps.old ≤ steps.new }
 {
     let estate = folded.estate();
     let source = end_of(alloc, estate, words.from)?;
@@ -66,7 +63,7 @@ pub fn evaluate<O: Sink, L: Ledger>(
         to: end_text(alloc, words.to)?,
         spot: words.spot,
     };
-    let lines = verdict_lines(alloc, estate, &asked, steps)?;
+    let lines = verdict_lines(alloc, estate, &asked)?;
     write_whole(out, lines.as_bytes())?;
     Ok(())
 }
@@ -164,24 +161,18 @@ fn are_one_pod(source: End, destination: End) -> bool
 
 // The lines of a packet in the families that are asked about.
 #[tactic(auto, unfolding(crate::specs::Report::verdict_lines))]
-fn verdict_lines<L: Ledger>(
-    alloc: Global,
-    estate: &Estate,
-    asked: &AskedPacket,
-    steps: &mut Steps<L>,
-) -> Result<String, NoMemory>
+fn verdict_lines(alloc: Global, estate: &Estate, asked: &AskedPacket) -> Result<String, NoMemory>
     requires source { IsEndOf estate.now asked.now.source }
     requires destination { IsEndOf estate.now asked.now.destination }
-    ensures text { IfOk result (λ text. string_bytes text
+    ensures { IfOk result (λ text. string_bytes text
         ≡ spec.verdict_lines estate.now asked.now.from asked.now.to asked.now.spot asked.now.source asked.now.destination) }
-    ensures least { steps.old ≤ steps.new }
 {
     if let Some(family) = family_asked(estate, asked.source, asked.destination) {
-        let verdict = is_allowed(estate, asked, family, steps);
+        let verdict = is_allowed(estate, asked, family);
         return verdict_line(alloc, asked, None, verdict);
     }
-    let four = is_allowed(estate, asked, Family::Four, steps);
-    let six = is_allowed(estate, asked, Family::Six, steps);
+    let four = is_allowed(estate, asked, Family::Four);
+    let six = is_allowed(estate, asked, Family::Six);
     if four == six {
         return verdict_line(alloc, asked, None, four);
     }
@@ -191,17 +182,11 @@ fn verdict_lines<L: Ledger>(
 }
 
 // Whether the packet of a family is allowed.
-fn is_allowed<L: Ledger>(
-    estate: &Estate,
-    asked: &AskedPacket,
-    family: Family,
-    steps: &mut Steps<L>,
-) -> bool
+fn is_allowed(estate: &Estate, asked: &AskedPacket, family: Family) -> bool
     requires source { IsEndOf estate.now asked.now.source }
     requires destination { IsEndOf estate.now asked.now.destination }
-    ensures verdict { result
+    ensures { result
         ≡ spec.is_allowed estate.now asked.now.source asked.now.destination asked.now.spot family }
-    ensures least { steps.old ≤ steps.new }
 {
     let packet = Packet {
         source: asked.source,
@@ -210,7 +195,7 @@ fn is_allowed<L: Ledger>(
         proto: asked.spot.proto,
         port: asked.spot.port,
     };
-    allows(estate, &packet, steps)
+    allows(estate, &packet)
 }
 
 // A line, with the mark of a family behind the destination.

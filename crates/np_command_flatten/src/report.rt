@@ -1,34 +1,27 @@
 //! `flatten`: one tier of NetworkPolicies with the same verdicts.
-ghost use Rattle.std.specs.Prelude.{◌≡◌, ◌≤◌, ◌<◌, Err, IfOk, Some};
+ghost use Rattle.std.specs.Prelude.{◌≡◌, ◌<◌, Err, IfOk, Some};
 ghost use Rattle.np_command.specs.Prelude.{Writes, Wrote, sunk};
 ghost use Rattle.np_command_flatten.specs.Report as spec;
 ghost use Rattle.np_flatten.specs.Prelude.{group_count};
 
-use np_base::{NoMemory, Steps, Text};
+use np_base::{NoMemory, Text};
 use np_command::{Failure, Fault, WriteFault};
 use np_flatten::{Flat, FlatFault, flatten};
 use np_fold::Folded;
 use np_io::{BufferedSink, Sink};
 use np_manifests::{LIST_END, LIST_FRONT, LIST_SEPARATOR, print_policy};
 use std::alloc::Global;
-use std::sync::ledger::Ledger;
 
 /// Writes NetworkPolicies that alone give the verdicts of all policies, as one line of JSON. They are made and written one
 /// after another. `Split` and `Alike` come exactly where there are none, with the first two workloads for which there are none,
 /// before the first byte is written.
 #[tactic(auto, unfolding(crate::specs::Report::flatten_reply))]
-pub fn flatten_in<O: Sink, L: Ledger>(
-    alloc: Global,
-    folded: &Folded,
-    out: &mut O,
-    steps: &mut Steps<L>,
-) -> Result<(), Failure>
-    ensures wrote { Wrote (sunk O.taken O.faults out.old out.new) (spec.flatten_reply folded.now) result }
-    ensures least { steps.old ≤ steps.new }
+pub fn flatten_in<O: Sink>(alloc: Global, folded: &Folded, out: &mut O) -> Result<(), Failure>
+    ensures { Wrote (sunk O.taken O.faults out.old out.new) (spec.flatten_reply folded.now) result }
 {
-    match flatten(alloc, folded, steps) {
+    match flatten(alloc, folded) {
         Ok(flat) => {
-            write_policies(alloc, &flat, out, steps)?;
+            write_policies(alloc, &flat, out)?;
             Ok(())
         }
         Err(fault) => Err(Failure::Refused(named(alloc, folded, fault)?)),
@@ -57,19 +50,13 @@ fn named(alloc: Global, folded: &Folded, fault: FlatFault) -> Result<Fault, NoMe
 }
 
 // Writes the policies. They are gathered, so that many of them are one call of the sink.
-fn write_policies<O: Sink, L: Ledger>(
-    alloc: Global,
-    flat: &Flat<'_>,
-    out: &mut O,
-    steps: &mut Steps<L>,
-) -> Result<(), WriteFault>
-    ensures written { Writes (sunk O.taken O.faults out.old out.new) (spec.flatten_text flat.now) result }
-    ensures least { steps.old ≤ steps.new }
+fn write_policies<O: Sink>(alloc: Global, flat: &Flat<'_>, out: &mut O) -> Result<(), WriteFault>
+    ensures { Writes (sunk O.taken O.faults out.old out.new) (spec.flatten_text flat.now) result }
 {
     let mut gathered = BufferedSink::new(alloc)?;
     gathered.put(out, LIST_FRONT.as_bytes())?;
     for group in 0..flat.count() {
-        let text = text_of(alloc, flat, group, steps)?;
+        let text = text_of(alloc, flat, group)?;
         gathered.put(out, &text)?;
     }
     gathered.put(out, LIST_END.as_bytes())?;
@@ -80,17 +67,11 @@ fn write_policies<O: Sink, L: Ledger>(
 
 // The text of the policy of a group, behind a comma but for the first.
 #[tactic(auto, unfolding(crate::specs::Report::item_text))]
-fn text_of<L: Ledger>(
-    alloc: Global,
-    flat: &Flat<'_>,
-    group: u32,
-    steps: &mut Steps<L>,
-) -> Result<Vec<u8>, NoMemory>
+fn text_of(alloc: Global, flat: &Flat<'_>, group: u32) -> Result<Vec<u8>, NoMemory>
     requires { group < group_count flat.now }
-    ensures text { IfOk result (λ text. text.items ≡ spec.item_text flat.now group) }
-    ensures least { steps.old ≤ steps.new }
+    ensures { IfOk result (λ text. text.items ≡ spec.item_text flat.now group) }
 {
-    let policy = flat.policy(group, steps)?;
+    let policy = flat.policy(group)?;
     let text = print_policy(alloc, &policy)?;
     if group == 0 {
         return Ok(text);

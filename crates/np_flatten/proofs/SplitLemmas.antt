@@ -1,4 +1,4 @@
--- The first row with a mark tells the first pair that is split. For `first_split` and crates above.
+-- The first row with a mark tells the first pair that is split. For `first_split`, `split_in_rows` and crates above.
 use Rattle.std.proofs.Common.{◌≡◌, ℕ, ◌<◌, List, [], ◌∷◌, ◌++◌, Bool, true, false, not, ◌&&◌, ◌||◌, ◌⊎◌, Option, Some, None, map, flat_map, length, if◌then◌else◌, arith, refl, sym, ap, subst, ◌∙◌, inl, inr}
 use Rattle.std.specs.Prelude.{MatchOption, is_some}
 use Rattle.std.specs.List.{find}

@@ -1,5 +1,5 @@
 //! Whether two workloads differ in what passes.
-ghost use Rattle.std.specs.Prelude.{◌≡◌, ◌≢◌, ◌≤◌, ◌++◌, IfOk, OnOk, not};
+ghost use Rattle.std.specs.Prelude.{◌≡◌, ◌≢◌, ◌++◌, IfOk, OnOk, not};
 ghost use Rattle.std.specs.Cmp.Lexicographic.{pointwise};
 ghost use Rattle.std.specs.List.{list_any};
 ghost use Rattle.np_classes.specs.Classes.{places};
@@ -10,53 +10,40 @@ ghost use Rattle.np_base.specs.Ranges.{are_same_range};
 ghost use Rattle.np_kinds.specs.Prelude.{IsWorkload, number_of_workloads};
 
 use crate::passing::Passing;
-use np_base::{Cells, NoMemory, Point, Range, Steps};
+use np_base::{Cells, NoMemory, Point, Range};
 use np_conns::ConnSet;
 use np_model::Direction;
 use np_table::{AddressRow, AddressSpan, address_rows};
-use std::sync::ledger::Ledger;
 
 /// Whether two workloads differ in what passes between them and a third, within and between them, or at some address in a
 /// direction. At most four sets are held at a time.
 #[tactic(auto, unfolding(crate::specs::Faults::differ))]
-pub(crate) fn differ<L: Ledger>(
-    passing: &Passing<'_>,
-    a: u32,
-    b: u32,
-    steps: &mut Steps<L>,
-) -> Result<bool, NoMemory>
+pub(crate) fn differ(passing: &Passing<'_>, a: u32, b: u32) -> Result<bool, NoMemory>
     requires a { IsWorkload passing.now a }
     requires b { IsWorkload passing.now b }
     requires apart { a ≢ b }
-    ensures answer { IfOk result (λ answer. answer ≡ spec.differ passing.now a b) }
-    ensures least { steps.old ≤ steps.new }
+    ensures { IfOk result (λ answer. answer ≡ spec.differ passing.now a b) }
 {
-    if differ_at_some(passing, a, b, steps)? {
+    if differ_at_some(passing, a, b)? {
         return Ok(true);
     }
-    if differ_within(passing, a, b, steps)? {
+    if differ_within(passing, a, b)? {
         return Ok(true);
     }
-    if differ_towards(passing, a, b, Direction::Ingress, steps)? {
+    if differ_towards(passing, a, b, Direction::Ingress)? {
         return Ok(true);
     }
-    differ_towards(passing, a, b, Direction::Egress, steps)
+    differ_towards(passing, a, b, Direction::Egress)
 }
 
 // Whether they differ in what passes between them and some third workload.
-fn differ_at_some<L: Ledger>(
-    passing: &Passing<'_>,
-    a: u32,
-    b: u32,
-    steps: &mut Steps<L>,
-) -> Result<bool, NoMemory>
+fn differ_at_some(passing: &Passing<'_>, a: u32, b: u32) -> Result<bool, NoMemory>
     requires a { IsWorkload passing.now a }
     requires b { IsWorkload passing.now b }
-    ensures answer { IfOk result (λ answer. answer ≡ list_any (spec.differ_at passing.now a b) (places (number_of_workloads passing.now))) }
-    ensures least { steps.old ≤ steps.new }
+    ensures { IfOk result (λ answer. answer ≡ list_any (spec.differ_at passing.now a b) (places (number_of_workloads passing.now))) }
 {
     for third in 0..passing.folded().workloads().count() {
-        if differ_at(passing, a, b, third, steps)? {
+        if differ_at(passing, a, b, third)? {
             return Ok(true);
         }
     }
@@ -64,79 +51,58 @@ fn differ_at_some<L: Ledger>(
 }
 
 // Whether they differ in what they send to a third workload, or in what they receive of it.
-fn differ_at<L: Ledger>(
-    passing: &Passing<'_>,
-    a: u32,
-    b: u32,
-    third: u32,
-    steps: &mut Steps<L>,
-) -> Result<bool, NoMemory>
+fn differ_at(passing: &Passing<'_>, a: u32, b: u32, third: u32) -> Result<bool, NoMemory>
     requires a { IsWorkload passing.now a }
     requires b { IsWorkload passing.now b }
     requires third { IsWorkload passing.now third }
-    ensures answer { IfOk result (λ answer. answer ≡ spec.differ_at passing.now a b third) }
-    ensures least { steps.old ≤ steps.new }
+    ensures { IfOk result (λ answer. answer ≡ spec.differ_at passing.now a b third) }
 {
     if third == a || third == b {
         return Ok(false);
     }
-    if pass_otherwise(passing, (a, third), (b, third), steps)? {
+    if pass_otherwise(passing, (a, third), (b, third))? {
         return Ok(true);
     }
-    pass_otherwise(passing, (third, a), (third, b), steps)
+    pass_otherwise(passing, (third, a), (third, b))
 }
 
 // Whether what passes from one workload to another differs from what passes from one of the other pair to its other.
-fn pass_otherwise<L: Ledger>(
+fn pass_otherwise(
     passing: &Passing<'_>,
     pair: (u32, u32),
     other: (u32, u32),
-    steps: &mut Steps<L>,
 ) -> Result<bool, NoMemory>
     requires pair { AreTwo passing.now pair.0 pair.1 }
     requires other { AreTwo passing.now other.0 other.1 }
-    ensures answer { IfOk result (λ answer.
+    ensures { IfOk result (λ answer.
         answer ≡ not (are_same_conns (spec.set_of passing.now pair.0 pair.1) (spec.set_of passing.now other.0 other.1))) }
-    ensures least { steps.old ≤ steps.new }
 {
-    let set = passing.between(pair.0, pair.1, steps)?;
-    let others = passing.between(other.0, other.1, steps)?;
+    let set = passing.between(pair.0, pair.1)?;
+    let others = passing.between(other.0, other.1)?;
     Ok(!are_same(&set, &others))
 }
 
 // Whether what passes within and between them differs.
-fn differ_within<L: Ledger>(
-    passing: &Passing<'_>,
-    a: u32,
-    b: u32,
-    steps: &mut Steps<L>,
-) -> Result<bool, NoMemory>
+fn differ_within(passing: &Passing<'_>, a: u32, b: u32) -> Result<bool, NoMemory>
     requires a { IsWorkload passing.now a }
     requires b { IsWorkload passing.now b }
     requires apart { a ≢ b }
-    ensures answer { IfOk result (λ answer. answer ≡ spec.two_differ (spec.own_sets passing.now a b)) }
-    ensures least { steps.old ≤ steps.new }
+    ensures { IfOk result (λ answer. answer ≡ spec.two_differ (spec.own_sets passing.now a b)) }
 {
     let mut sets = Vec::new(passing.alloc());
-    add_within(&mut sets, passing, a, steps)?;
-    sets.push(passing.between(a, b, steps)?)?;
-    sets.push(passing.between(b, a, steps)?)?;
-    add_within(&mut sets, passing, b, steps)?;
+    add_within(&mut sets, passing, a)?;
+    sets.push(passing.between(a, b)?)?;
+    sets.push(passing.between(b, a)?)?;
+    add_within(&mut sets, passing, b)?;
     Ok(two_differ(&sets))
 }
 
 // Adds what passes within a workload, where it is defined.
-fn add_within<L: Ledger>(
-    sets: &mut Vec<ConnSet>,
-    passing: &Passing<'_>,
-    workload: u32,
-    steps: &mut Steps<L>,
-) -> Result<(), NoMemory>
+fn add_within(sets: &mut Vec<ConnSet>, passing: &Passing<'_>, workload: u32) -> Result<(), NoMemory>
     requires { IsWorkload passing.now workload }
-    ensures sets { OnOk result (sets.new.items ≡ sets.old.items ++ own_set passing.now workload workload) }
-    ensures least { steps.old ≤ steps.new }
+    ensures { OnOk result (sets.new.items ≡ sets.old.items ++ own_set passing.now workload workload) }
 {
-    if let Some(set) = passing.within(workload, steps)? {
+    if let Some(set) = passing.within(workload)? {
         sets.push(set)?;
     }
     Ok(())
@@ -164,20 +130,18 @@ fn are_same(one: &ConnSet, other: &ConnSet) -> bool
 }
 
 // Whether they differ in what passes at some address in a direction.
-fn differ_towards<L: Ledger>(
+fn differ_towards(
     passing: &Passing<'_>,
     a: u32,
     b: u32,
     direction: Direction,
-    steps: &mut Steps<L>,
 ) -> Result<bool, NoMemory>
     requires a { IsWorkload passing.now a }
     requires b { IsWorkload passing.now b }
-    ensures answer { IfOk result (λ answer. answer ≡ spec.differ_towards passing.now a b direction) }
-    ensures least { steps.old ≤ steps.new }
+    ensures { IfOk result (λ answer. answer ≡ spec.differ_towards passing.now a b direction) }
 {
-    let rows_of_a = address_rows(passing.alloc(), passing.folded(), a, direction, steps)?;
-    let rows_of_b = address_rows(passing.alloc(), passing.folded(), b, direction, steps)?;
+    let rows_of_a = address_rows(passing.alloc(), passing.folded(), a, direction)?;
+    let rows_of_b = address_rows(passing.alloc(), passing.folded(), b, direction)?;
     Ok(!are_same_rows(rows_of_a.items(), rows_of_b.items()))
 }
 

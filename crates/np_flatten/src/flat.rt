@@ -1,5 +1,5 @@
 //! The flat policies of an estate.
-ghost use Rattle.std.specs.Prelude.{◌≡◌, ◌<◌, ◌≤◌, ◌^◌, ◌++◌, IfOk, OnOk, map};
+ghost use Rattle.std.specs.Prelude.{◌≡◌, ◌<◌, ◌^◌, ◌++◌, IfOk, OnOk, map};
 ghost use Rattle.np_classes.specs.Classes.{places};
 ghost use Rattle.np_flatten.specs.Flat as spec;
 ghost use Rattle.np_flatten.specs.Groups.{first_of_group, group_count, group_firsts, group_of, relevant};
@@ -11,7 +11,7 @@ use crate::passing::Passing;
 use crate::policy_parts::{
     flat_name, is_nothing, peer_like, ports_of, rule_to_everyone, selector_of,
 };
-use np_base::{NoMemory, Seq, Steps, Text};
+use np_base::{NoMemory, Seq, Text};
 use np_classes::Classes;
 use np_conns::ConnSet;
 use np_fold::Folded;
@@ -19,7 +19,6 @@ use np_kinds::first_pod;
 use np_model::{Direction, NetPolicy, NetRule};
 use np_table::address_rows;
 use std::marker::Model;
-use std::sync::ledger::Ledger;
 
 /// The flat policies of an estate, one for each group of workloads: those of one namespace whose pods have the same values of
 /// all keys of labels that some selector names. Groups are numbered from 0 by the first workload of each. A policy is made when
@@ -78,13 +77,12 @@ impl<'a> Flat<'a> {
     /// As ingress it has a rule for each group of which some workload may send to one of this group, and then one for each
     /// range of addresses that may send to it, as the fewest blocks. As egress it has a rule of every pod, since what its pods
     /// may not send to others the others' ingress refuses, and then one for each range of addresses that it may send to.
-    pub fn policy<L: Ledger>(&self, group: u32, steps: &mut Steps<L>) -> Result<NetPolicy, NoMemory>
+    pub fn policy(&self, group: u32) -> Result<NetPolicy, NoMemory>
         requires { group < group_count self.now }
-        ensures policy { IfOk result (λ policy. policy ≡ spec.flat_policy self.now group) }
-        ensures least { steps.old ≤ steps.new }
+        ensures { IfOk result (λ policy. policy ≡ spec.flat_policy self.now group) }
     {
-        let ingress = self.ingress_rules(group, steps)?;
-        let egress = self.egress_rules(group, steps)?;
+        let ingress = self.ingress_rules(group)?;
+        let egress = self.egress_rules(group)?;
         let alloc = self.passing.alloc();
         let pod = first_pod(self.folded(), self.first(group));
         Ok(NetPolicy {
@@ -97,54 +95,42 @@ impl<'a> Flat<'a> {
     }
 
     // The ingress of a group: from groups, and then from addresses.
-    fn ingress_rules<L: Ledger>(
-        &self,
-        group: u32,
-        steps: &mut Steps<L>,
-    ) -> Result<Seq<NetRule>, NoMemory>
+    fn ingress_rules(&self, group: u32) -> Result<Seq<NetRule>, NoMemory>
         requires { group < group_count self.now }
-        ensures rules { IfOk result (λ made. made ≡ spec.ingress_rules self.now group) }
-        ensures least { steps.old ≤ steps.new }
+        ensures { IfOk result (λ made. made ≡ spec.ingress_rules self.now group) }
     {
         let mut rules = Seq::new(self.passing.alloc());
         for sender in 0..self.count() {
-            self.add_rule_from(&mut rules, sender, group, steps)?;
+            self.add_rule_from(&mut rules, sender, group)?;
         }
-        self.add_rules_of_addresses(&mut rules, group, Direction::Ingress, steps)?;
+        self.add_rules_of_addresses(&mut rules, group, Direction::Ingress)?;
         Ok(rules)
     }
 
     // The egress of a group: to every pod, and then to addresses.
-    fn egress_rules<L: Ledger>(
-        &self,
-        group: u32,
-        steps: &mut Steps<L>,
-    ) -> Result<Seq<NetRule>, NoMemory>
+    fn egress_rules(&self, group: u32) -> Result<Seq<NetRule>, NoMemory>
         requires { group < group_count self.now }
-        ensures rules { IfOk result (λ made. made ≡ spec.egress_rules self.now group) }
-        ensures least { steps.old ≤ steps.new }
+        ensures { IfOk result (λ made. made ≡ spec.egress_rules self.now group) }
     {
         let alloc = self.passing.alloc();
         let mut rules = Seq::new(alloc);
         rules.push(rule_to_everyone(alloc)?)?;
-        self.add_rules_of_addresses(&mut rules, group, Direction::Egress, steps)?;
+        self.add_rules_of_addresses(&mut rules, group, Direction::Egress)?;
         Ok(rules)
     }
 
     // Adds the rule from one group to another, where something may pass.
-    fn add_rule_from<L: Ledger>(
+    fn add_rule_from(
         &self,
         rules: &mut Seq<NetRule>,
         sender: u32,
         group: u32,
-        steps: &mut Steps<L>,
     ) -> Result<(), NoMemory>
         requires sender { sender < group_count self.now }
         requires group { group < group_count self.now }
-        ensures rules { OnOk result (rules.new ≡ rules.old ++ spec.rules_from_group self.now group sender) }
-        ensures least { steps.old ≤ steps.new }
+        ensures { OnOk result (rules.new ≡ rules.old ++ spec.rules_from_group self.now group sender) }
     {
-        let Some(set) = self.set_from(sender, group, steps)? else {
+        let Some(set) = self.set_from(sender, group)? else {
             return Ok(());
         };
         if is_nothing(&set) {
@@ -159,43 +145,30 @@ impl<'a> Flat<'a> {
     }
 
     // What passes from one group to another. `None` exactly where both are one group of one pod.
-    fn set_from<L: Ledger>(
-        &self,
-        sender: u32,
-        group: u32,
-        steps: &mut Steps<L>,
-    ) -> Result<Option<ConnSet>, NoMemory>
+    fn set_from(&self, sender: u32, group: u32) -> Result<Option<ConnSet>, NoMemory>
         requires sender { sender < group_count self.now }
         requires group { group < group_count self.now }
-        ensures set { IfOk result (λ made. made ≡ spec.set_from self.now sender group) }
-        ensures least { steps.old ≤ steps.new }
+        ensures { IfOk result (λ made. made ≡ spec.set_from self.now sender group) }
     {
         if sender == group {
-            return self.set_within(group, steps);
+            return self.set_within(group);
         }
-        let set = self
-            .passing
-            .between(self.first(sender), self.first(group), steps)?;
+        let set = self.passing.between(self.first(sender), self.first(group))?;
         Ok(Some(set))
     }
 
     // What passes from a group to itself: within its first workload, or where that has one pod to the next one.
-    fn set_within<L: Ledger>(
-        &self,
-        group: u32,
-        steps: &mut Steps<L>,
-    ) -> Result<Option<ConnSet>, NoMemory>
+    fn set_within(&self, group: u32) -> Result<Option<ConnSet>, NoMemory>
         requires { group < group_count self.now }
-        ensures set { IfOk result (λ made. made ≡ spec.set_from self.now group group) }
-        ensures least { steps.old ≤ steps.new }
+        ensures { IfOk result (λ made. made ≡ spec.set_from self.now group group) }
     {
         let first = self.first(group);
-        let within = self.passing.within(first, steps)?;
+        let within = self.passing.within(first)?;
         if within.is_some() {
             return Ok(within);
         }
         match self.next_like(first, group) {
-            Some(next) => Ok(Some(self.passing.between(first, next, steps)?)),
+            Some(next) => Ok(Some(self.passing.between(first, next)?)),
             None => Ok(None),
         }
     }
@@ -215,19 +188,17 @@ impl<'a> Flat<'a> {
     }
 
     // Adds the rules of the ranges of addresses of a group in a direction.
-    fn add_rules_of_addresses<L: Ledger>(
+    fn add_rules_of_addresses(
         &self,
         rules: &mut Seq<NetRule>,
         group: u32,
         direction: Direction,
-        steps: &mut Steps<L>,
     ) -> Result<(), NoMemory>
         requires { group < group_count self.now }
-        ensures rules { OnOk result (rules.new ≡ rules.old ++ spec.rules_of_addresses (spec.group_rows self.now group direction)) }
-        ensures least { steps.old ≤ steps.new }
+        ensures { OnOk result (rules.new ≡ rules.old ++ spec.rules_of_addresses (spec.group_rows self.now group direction)) }
     {
         let alloc = self.passing.alloc();
-        let rows = address_rows(alloc, self.folded(), self.first(group), direction, steps)?;
+        let rows = address_rows(alloc, self.folded(), self.first(group), direction)?;
         add_rules_of_addresses(alloc, rules, rows.items())
     }
 

@@ -1,11 +1,11 @@
 //! What passes between two workloads, by rules that are found once.
-ghost use Rattle.std.specs.Prelude.{◌≡◌, ◌≢◌, ◌≤◌, IfOk, None, Some, if◌then◌else◌};
+ghost use Rattle.std.specs.Prelude.{◌≡◌, ◌≢◌, IfOk, None, Some, if◌then◌else◌};
 ghost use Rattle.np_fold.specs.Prelude.{folding_of};
 ghost use Rattle.np_flatten.specs.Faults as spec;
 ghost use Rattle.np_kinds.specs.Prelude.{IsWorkload, is_alone};
 
 use np_addr::Family;
-use np_base::{Cells, NoMemory, Steps};
+use np_base::{Cells, NoMemory};
 use np_conns::ConnSet;
 use np_fold::Folded;
 use np_kinds::{KindReach, Sides};
@@ -13,7 +13,6 @@ use np_model::Direction;
 use np_table::{pair_set, set_between};
 use std::alloc::Global;
 use std::marker::Model;
-use std::sync::ledger::Ledger;
 
 /// For each kind of workloads of an estate the rules of the pod that stands for it, as it sends and as it receives, and which
 /// kinds these let through at all. What they give between two workloads is made when it is asked for, and not kept. Contracts
@@ -78,17 +77,11 @@ impl<'a> Passing<'a> {
     }
 
     /// What passes from a workload to another in packets of the first family of the list.
-    pub(crate) fn between<L: Ledger>(
-        &self,
-        source: u32,
-        destination: u32,
-        steps: &mut Steps<L>,
-    ) -> Result<ConnSet, NoMemory>
+    pub(crate) fn between(&self, source: u32, destination: u32) -> Result<ConnSet, NoMemory>
         requires source { IsWorkload self.now source }
         requires destination { IsWorkload self.now destination }
         requires apart { source ≢ destination }
-        ensures set { IfOk result (λ made. made ≡ spec.set_of self.now source destination) }
-        ensures least { steps.old ≤ steps.new }
+        ensures { IfOk result (λ made. made ≡ spec.set_of self.now source destination) }
     {
         let folded = self.folded();
         if self.reach.is_silent(folded, source, destination) {
@@ -97,23 +90,18 @@ impl<'a> Passing<'a> {
         }
         let sender = self.sides.at(Direction::Egress, source);
         let receiver = self.sides.at(Direction::Ingress, destination);
-        set_between(self.alloc, sender, receiver, first_family(folded), steps)
+        set_between(self.alloc, sender, receiver, first_family(folded))
     }
 
     /// What passes within a workload in packets of the first family of the list. `None` exactly where it has one pod.
-    pub(crate) fn within<L: Ledger>(
-        &self,
-        workload: u32,
-        steps: &mut Steps<L>,
-    ) -> Result<Option<ConnSet>, NoMemory>
+    pub(crate) fn within(&self, workload: u32) -> Result<Option<ConnSet>, NoMemory>
         requires { IsWorkload self.now workload }
-        ensures set { IfOk result (λ made. made ≡ (if is_alone (folding_of self.now) workload workload then None
+        ensures { IfOk result (λ made. made ≡ (if is_alone (folding_of self.now) workload workload then None
             else Some (spec.set_of self.now workload workload))) }
-        ensures least { steps.old ≤ steps.new }
     {
         let folded = self.folded();
         let family = first_family(folded);
-        pair_set(self.alloc, folded, workload, workload, family, steps)
+        pair_set(self.alloc, folded, workload, workload, family)
     }
 }
 

@@ -1,5 +1,5 @@
 //! The first pair of workloads of one group that differ.
-ghost use Rattle.std.specs.Prelude.{◌≡◌, ◌<◌, ◌≤◌, IfOk, length, map, slice_index};
+ghost use Rattle.std.specs.Prelude.{◌≡◌, ◌<◌, IfOk, length, map, slice_index};
 ghost use Rattle.np_classes.specs.Classes.{places};
 ghost use Rattle.np_flatten.specs.Faults as faults;
 ghost use Rattle.np_flatten.specs.Prelude.{comes_before, first_by, first_pair, group_firsts, group_of, with_number};
@@ -7,48 +7,43 @@ ghost use Rattle.np_kinds.specs.Prelude.{IsWorkload, number_of_workloads};
 
 use crate::differ::differ;
 use crate::passing::Passing;
-use np_base::{NoMemory, Steps};
+use np_base::NoMemory;
 use np_classes::Classes;
-use std::sync::ledger::Ledger;
 
 /// The first two workloads of one group that differ, by the lesser number and then by the greater. The first workload of each
 /// kind is held against the first of its group: workloads of one kind never differ, and where none differs from the first of
 /// its group no two of a group do.
-pub(crate) fn first_unlike<L: Ledger>(
+pub(crate) fn first_unlike(
     passing: &Passing<'_>,
     groups: &Classes,
-    steps: &mut Steps<L>,
 ) -> Result<Option<(u32, u32)>, NoMemory>
     requires firsts { groups.now.firsts ≡ group_firsts passing.now }
     requires numbers { groups.now.numbers ≡ map (group_of passing.now) (places (number_of_workloads passing.now)) }
-    ensures found { IfOk result (λ found. found ≡ first_pair (faults.is_unlike passing.now) (number_of_workloads passing.now)) }
-    ensures least { steps.old ≤ steps.new }
+    ensures { IfOk result (λ found. found ≡ first_pair (faults.is_unlike passing.now) (number_of_workloads passing.now)) }
 {
     let mut found = None;
     for workload in passing.folded().workloads().first_of_kinds() {
         let first = first_of_group(groups, *workload);
-        found = least_with(passing, first, *workload, found, steps)?;
+        found = least_with(passing, first, *workload, found)?;
     }
     Ok(found)
 }
 
 // The least pair, where these two are looked at as well: the first of a group and a workload of it.
-fn least_with<L: Ledger>(
+fn least_with(
     passing: &Passing<'_>,
     first: u32,
     workload: u32,
     found: Option<(u32, u32)>,
-    steps: &mut Steps<L>,
 ) -> Result<Option<(u32, u32)>, NoMemory>
     requires first { IsWorkload passing.now first }
     requires workload { IsWorkload passing.now workload }
-    ensures found { IfOk result (λ least. least ≡ with_number (faults.differ passing.now) first workload found) }
-    ensures least { steps.old ≤ steps.new }
+    ensures { IfOk result (λ least. least ≡ with_number (faults.differ passing.now) first workload found) }
 {
     if !comes_before(first, workload, found) {
         return Ok(found);
     }
-    if differ(passing, first, workload, steps)? {
+    if differ(passing, first, workload)? {
         return Ok(Some((first, workload)));
     }
     Ok(found)

@@ -9,8 +9,8 @@ use Rattle.np_model.specs.Prelude.{IsLawful}
 use Rattle.np_fold.proofs.NamespaceLemmas.{labels_agree}
 use Rattle.np_fold.proofs.WorkloadLemmas.{first-is, number-in_workloads, one_kind, one_workload, workloads-count}
 use Rattle.np_fold.specs.Prelude.{Folding, IsSameKind, first_pod, folding_of, kinds_alike, members_of, workload_count, workload_number, workloads_of}
-use Rattle.np_kinds.proofs.KindVerdicts.{SameKindEnd-ends, end_rule_count-same, packet-same}
-use Rattle.np_rules.specs.Prelude.{ModelEnd, address, no_pod, pod, pod_at, pod_end, rule_count}
+use Rattle.np_kinds.proofs.KindVerdicts.{SameKindEnd-ends, packet-same}
+use Rattle.np_rules.specs.Prelude.{ModelEnd, address, no_pod, pod, pod_at, pod_end}
 use Rattle.np_kinds.proofs.MemberLemmas.{destination-member, member-number, members-some, members-within, not-alone, own-member, source-member}
 
 -- ---- pods of one kind
@@ -207,14 +207,3 @@ pub pair_allows-kinds : (lists : EstateLists) (a a' b b' : ℕ) (family : Family
 pair_allows-kinds lists a a' b b' family spot lawful a_in a'_in b_in b'_in sources destinations alone alone' =
     pair_allows-firsts lists a a' b b' family spot lawful a_in a'_in b_in b'_in sources destinations alone
     ∙ sym (pair_allows-firsts lists a' a' b' b' family spot lawful a'_in a'_in b'_in b'_in refl refl alone')
-
--- as many rules speak of the pod that stands for the destination as of its workload's first
-pub rule_count-destination : (lists : EstateLists) (folding : Folding) (source destination : ℕ) (direction : Direction) → folding ≡ folding_of lists → destination < length folding.workloads →
-    is_alone folding source destination ≡ false → IsLawful lists →
-    rule_count lists direction (pod_at lists (destination_pod folding source destination)) ≡ rule_count lists direction (pod_at lists (source_pod folding destination))
-rule_count-destination lists folding source destination direction folded =
-    let of : Folding → Type 0 = λ f. destination < length f.workloads → is_alone f source destination ≡ false → IsLawful lists → rule_count lists direction
-    (pod_at lists (destination_pod f source destination)) ≡ rule_count lists direction (pod_at lists (source_pod f destination)) in
-    subst of (sym folded) (λ within alone lawful.
-    end_rule_count-same lists direction (pod (pod_at lists (destination_pod (folding_of lists) source destination))) (pod (pod_at lists (source_pod (folding_of lists) destination)))
-    (SameKindEnd-ends lists _ _ (one_kind-destination lists source destination lawful within alone)))

@@ -1,15 +1,15 @@
 -- The ports of a workload that are reached, and the rules that are looked at for them.
 -- For `Routes::ingress_set`, `sent_in_some` and 2 more.
-use Rattle.std.proofs.Common.{◌≡◌, ◌<◌, ◌≤◌, ◌+◌, ◌*◌, ℕ, List, [], ◌∷◌, ◌++◌, Bool, true, false, ◌&&◌, ◌||◌, Contains, Option, Some, None, eqb, length, get_or, take, arith, refl, sym, ap, subst, ◌∙◌, if◌then◌else◌}
+use Rattle.std.proofs.Common.{◌≡◌, ◌<◌, ◌≤◌, ◌+◌, ◌*◌, ℕ, List, [], ◌∷◌, ◌++◌, Bool, true, false, ◌&&◌, ◌||◌, Contains, Option, Some, None, eqb, length, get_or, take, arith, refl, sym, ap, subst, ◌∙◌}
 use Rattle.std.specs.List.{list_any}
 use Rattle.std.specs.Option.{option_eq}
 use Rattle.std.proofs.Math.Nat.{mul-le-mul_right}
 use Rattle.std.proofs.lemmas.List.{get_or_default}
 use Rattle.std.proofs.lemmas.List.Folds.{list_any-append, list_any_more}
 use Rattle.std.proofs.Math.Bool.{or-false}
-use Rattle.np_routes.specs.Prelude.{Egress, EstateLists, Family, Four, Ingress, Pod, PortSpot, Sender, Six, ingress_allows, ingress_reaches, ingress_steps, is_controller, is_routed, may_send, reaches, send_steps, sender_for, sender_of, sends}
+use Rattle.np_routes.specs.Prelude.{Egress, EstateLists, Family, Ingress, PortSpot, Sender, ingress_allows, ingress_reaches, ingress_steps, is_controller, is_routed, may_send, reaches, send_steps, sender_for, sender_of, sends}
 use Rattle.np_conns.specs.Prelude.{Conns, IsConns, conns_of, has_spot, is_spot}
-use Rattle.np_model.specs.Prelude.{IsLawful, families_of, has_family, or_four}
+use Rattle.np_model.specs.Prelude.{IsLawful, families_of}
 use Rattle.np_fold.proofs.WorkloadLemmas.{number-in_workloads}
 use Rattle.np_fold.specs.Prelude.{folding_of, members_of, workload_number}
 use Rattle.np_routes.proofs.KindRoutes.{one_workload-alike, reaches-same}
@@ -17,6 +17,7 @@ use Rattle.np_rules.specs.Prelude.{pod_at, side_of, side_rule_count}
 use Rattle.np_kinds.proofs.MemberLemmas.{member-number, members-some, members-within, own-member, source-member}
 use Rattle.np_conns.proofs.ConnLemmas.{conns_of-has, conns_of-set}
 use Rattle.np_kinds.specs.Prelude.{IsWorkload, first_side, source_pod}
+use Rattle.np_table.proofs.SideLemmas.{families-few}
 
 -- ---- the sender
 
@@ -47,22 +48,6 @@ sets-next passes families i d sets more set spot within pushed made is before =
     before (ap (λ (conns : Conns). has_spot conns spot) made ∙ conns_of-has (passes family) spot is)
 
 -- ---- rules that are looked at
-
--- for the families so far and one more as many as for all at most
-pub steps-families : (old now new index count each : ℕ) → index < count → now ≤ old + index * each → new ≤ now + each → new ≤ old + count * each
-steps-families old now new index count each within before here =
-    let more : (index + 1) * each ≤ count * each = mul-le-mul_right each (let up : index + 1 ≤ count = omega (arith, within) in up) in
-    omega (arith, more, before, here)
-
--- there are two families at most
-families-few : (pods : List Pod) → length (families_of pods) ≤ 2
-families-few pods = by (has_family pods Four) (has_family pods Six)
-  where
-    by : (four six : Bool) → length (or_four (if four then Four ∷ (if six then Six ∷ [] else []) else (if six then Six ∷ [] else []))) ≤ 2
-    by true true = omega arith
-    by true false = omega arith
-    by false true = omega arith
-    by false false = omega arith
 
 steps-most : (lists : EstateLists) (controller : Option ℕ) (workload : ℕ) →
     send_steps (sender_for lists controller) (first_side lists Ingress workload) (families_of lists.pods) ≤ ingress_steps lists controller workload

@@ -131,7 +131,8 @@ fn reached_set<L: Ledger>(
     }
     let estate = backends.estate();
     let receiver = PodRules::of(alloc, estate, place, Direction::Ingress)?;
-    let sent = sender.may_send(alloc, &receiver, estate.families(), steps)?;
+    sender.count(&receiver, estate.families(), steps);
+    let sent = sender.may_send(alloc, &receiver, estate.families())?;
     routed.meet(&sent)
 }
 

@@ -9,7 +9,7 @@ use Rattle.np_base.proofs.Each.{All-weaker, All-append}
 use Rattle.np_base.proofs.Options.{option_map-or}
 use Rattle.np_model.specs.Prelude.{HasAscendingPriorities, ascends}
 use Rattle.np_rules.specs.Prelude.{Action, AdminPolicy, AdminRule, Contact, Direction, PlacedAdminRule, PodEnd, admin_decider, admin_places, admin_places_of, admin_precedes, admin_rule_matches, admin_rules_of, least_by, sooner, subject_selects}
-use Rattle.np_rules.proofs.PlacesLemmas.{find-next, find-numbered, if_both, counted, length-numbered}
+use Rattle.np_rules.proofs.PlacesLemmas.{find-next, find-numbered, if_both}
 
 -- ---- lists in order
 
@@ -147,20 +147,6 @@ action-next policies direction p contact i policy decided here made within is so
     ∙ ap (λ a. option_or a (option_map says (find test (places_by direction p policy)))) (sym so_far)
     ∙ ap (option_or decided) found
     ∙ sym joined)
-
--- how many rules a policy has, where it selects the pod
-pub length_by : (direction : Direction) (p : PodEnd) (policy : AdminPolicy) →
-    length (places_by direction p policy) ≡ length (if subject_selects policy.subject p then admin_rules_of direction policy else [])
-length_by direction p policy = if_both (λ xs ys. length xs ≡ length ys) (subject_selects policy.subject p) (admin_places_of direction policy) (admin_rules_of direction policy)
-    (length-numbered (λ numbered. record { policy = policy; place = numbered.0; rule = numbered.1 }) 0 (admin_rules_of direction policy)) refl
-
--- how many rules one policy more has
-pub cost-next : (policies : List AdminPolicy) (direction : Direction) (p : PodEnd) (i : ℕ) (policy : AdminPolicy) (start before after : ℕ) → i < length policies → policy ≡ get_or policies i policy →
-    before ≡ start + length (admin_places (take i policies) direction p) → after ≡ before + length (if subject_selects policy.subject p then admin_rules_of direction policy else []) →
-    after ≡ start + length (admin_places (take (i + 1) policies) direction p)
-cost-next policies direction p i policy start before after within is so_far more =
-    (counted (places_by direction p) policies i policy (if subject_selects policy.subject p then admin_rules_of direction policy else []) start before after within is
-    (length_by direction p policy) so_far more).0
 
 -- after the last policy
 pub action-all : (policies : List AdminPolicy) (direction : Direction) (p : PodEnd) (contact : Contact) (i : ℕ) (decided : Option Action) → HasAscendingPriorities policies → i ≤ length policies →

@@ -2,7 +2,7 @@
 use Rattle.std.proofs.Common.{◌≡◌, ℕ, ◌+◌, ◌<◌, List, [], Bool, ◌||◌, length, take, get_or, refl, sym, ap, ◌∙◌, unwrap_or, if◌then◌else◌}
 use Rattle.std.specs.List.{list_any}
 use Rattle.np_rules.specs.Prelude.{Contact, Direction, NetPolicy, PlacedNetRule, PodEnd, net_places, net_places_of, net_rule_matches, net_rules_of, net_selects, permits, placed_net_matches}
-use Rattle.np_rules.proofs.PlacesLemmas.{if_both, counted, length-numbered, list_any-next, list_any-numbered}
+use Rattle.np_rules.proofs.PlacesLemmas.{if_both, list_any-next, list_any-numbered}
 
 -- the rules of a policy, where it selects the pod
 abbrev pub places_by : Direction → PodEnd → NetPolicy → List PlacedNetRule
@@ -22,17 +22,3 @@ permits-next policies direction p contact i policy permitted here made within is
     ∙ ap (λ b. b || list_any (placed_net_matches contact) (places_by direction p policy)) (sym so_far)
     ∙ ap (λ b. permitted || b) found
     ∙ sym joined)
-
--- how many rules a policy has, where it selects the pod
-pub length_by : (direction : Direction) (p : PodEnd) (policy : NetPolicy) →
-    length (places_by direction p policy) ≡ length (if net_selects policy p then unwrap_or (net_rules_of direction policy) [] else [])
-length_by direction p policy = if_both (λ xs ys. length xs ≡ length ys) (net_selects policy p) (net_places_of direction policy) (unwrap_or (net_rules_of direction policy) [])
-    (length-numbered (λ numbered. record { policy = policy; place = numbered.0; rule = numbered.1 }) 0 (unwrap_or (net_rules_of direction policy) [])) refl
-
--- how many rules one policy more has
-pub cost-next : (policies : List NetPolicy) (direction : Direction) (p : PodEnd) (i : ℕ) (policy : NetPolicy) (start before after : ℕ) → i < length policies → policy ≡ get_or policies i policy →
-    before ≡ start + length (net_places (take i policies) direction p) → after ≡ before + length (if net_selects policy p then unwrap_or (net_rules_of direction policy) [] else []) →
-    after ≡ start + length (net_places (take (i + 1) policies) direction p)
-cost-next policies direction p i policy start before after within is so_far more =
-    (counted (places_by direction p) policies i policy (if net_selects policy p then unwrap_or (net_rules_of direction policy) [] else []) start before after within is
-    (length_by direction p policy) so_far more).0

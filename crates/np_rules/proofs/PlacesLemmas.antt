@@ -1,4 +1,4 @@
--- Rules with their policies and places. For AdminTierLemmas, BaseTierLemmas and 4 more.
+-- Rules with their policies and places. For `count_rules` and crates above.
 use Rattle.std.proofs.Common.{◌≡◌, ℕ, ◌+◌, ◌<◌, ◌≤◌, List, [], ◌∷◌, ◌++◌, Bool, true, false, ◌||◌, length, take, get_or, map, Some, refl, sym, ap, ◌∙◌, arith, if◌then◌else◌}
 use Rattle.std.specs.List.{enumerate_from, flat_map, list_any, find}
 use Rattle.std.specs.Option.{option_map, option_or}
@@ -79,13 +79,3 @@ find-map {X} {Y} {Z} f test seen (x ∷ xs) = go (test (f x)) (find-map f test s
         option_map seen (if b then Some (f x) else find test (map f xs)) ≡ option_map (λ x. seen (f x)) (if b then Some x else find (λ x. test (f x)) xs)
     go true rest = refl
     go false rest = rest
-
--- ---- counting
-
--- so many are counted after one item more, and that is no more than all
-pub counted : {X Y Z : Type 0} (f : X → List Y) (items : List X) (i : ℕ) (item : X) (here : List Z) (start before after : ℕ) → i < length items → item ≡ get_or items i item →
-    length (f item) ≡ length here → before ≡ start + length (flat_map f (take i items)) → after ≡ before + length here →
-    (after ≡ start + length (flat_map f (take (i + 1) items))) × (after ≤ start + length (flat_map f items))
-counted f items i item here start before after within is same so_far more =
-    let all : length (flat_map f (take i items)) + length (f item) ≤ length (flat_map f items) = rw is (length-flat_map-take f items i item within) in
-    (omega (arith, length-next f items i item within is), omega (arith, all))

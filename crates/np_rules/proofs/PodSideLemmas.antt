@@ -1,4 +1,4 @@
--- The layer of a side, made of the rules that are kept of it. For `PodRules::address_set` and `PodRules::layer`.
+-- The layer of a side, made of the rules that are kept of it. For `PodRules::count` and `PodRules::layer`.
 use Rattle.std.proofs.Common.{◌≡◌, ℕ, ◌+◌, List, [], ◌∷◌, Bool, length, map, refl, sym, ap, ◌∙◌, subst, arith}
 use Rattle.np_rules.specs.Prelude.{AdminRule, Contact, IsAdminPart, IsBasePart, IsLayer, IsSetOf, KeepsRules, Layer, NetRule, Pairwise, PodSide, admin_places, base_places, matches_of, near_pod, net_places, net_rule_matches, side_rule_count}
 use Rattle.np_rules.proofs.LayerLemmas.{matches_in_namespace}
@@ -32,13 +32,11 @@ length-map f [] = refl
 length-map f (x ∷ xs) = omega (arith, length-map f xs)
 
 -- as many rules are kept as speak of the pod
-pub kept_count : {A N : Type 0} (side : PodSide) (admin : List A) (admin_of : A → AdminRule) (isolated : Bool) (net : List N) (net_of : N → NetRule) (base : List AdminRule) →
-    KeepsRules side (map admin_of admin) isolated (map net_of net) base → length admin + length net + length base ≡ side_rule_count side
-kept_count side admin admin_of isolated net net_of base kept =
+pub kept_count : (side : PodSide) (admin : List AdminRule) (isolated : Bool) (net : List NetRule) (base : List AdminRule) → KeepsRules side admin isolated net base →
+    length admin + length net + length base ≡ side_rule_count side
+kept_count side admin isolated net base kept =
     omega (
       arith,
-      length-map admin_of admin,
-      length-map net_of net,
       ap length kept.admin_rules,
       ap length kept.net_rules,
       ap length kept.base_rules,

@@ -1,4 +1,4 @@
--- The policies that speak of a pod, as they are kept. For `PodRules::names`, `PodRules::rules` and 3 more.
+-- The policies that speak of a pod, as they are kept. For `PodRules::count`, `PodRules::names` and 4 more.
 use Rattle.std.proofs.Common.{◌≡◌, ℕ, suc, ◌+◌, ◌^◌, ◌<◌, ◌≤◌, List, [], ◌∷◌, ◌++◌, All, Bool, true, false, ◌&&◌, ◌||◌, ◌==◌, cond, length, take, get_or, map, filter, not, Option, Some, None, is_some, unwrap_or, refl, sym, ap, subst, ◌∙◌, arith, if◌then◌else◌}
 use Rattle.std.specs.List.{enumerate_from, flat_map, list_any, slice_get}
 use Rattle.std.proofs.lemmas.Bool.Decides.{nat_tests}

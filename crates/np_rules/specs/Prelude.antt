@@ -24,5 +24,5 @@ pub use Rattle.np_rules.specs.model.Rules.{admin_rule_matches, net_rule_matches,
 pub use Rattle.np_rules.specs.model.Selection.{net_selects, subject_selects}
 pub use Rattle.np_rules.specs.model.Sides.{action_says, admin_says, base_says, is_allow, lower_allows}
 unfoldable pub use Rattle.np_rules.specs.model.Sides.{side_allows}
-pub use Rattle.np_rules.specs.model.Verdict.{IsEndOf, end_allows, end_of, no_pod, packet_of, packet_rule_count, pod_at}
+pub use Rattle.np_rules.specs.model.Verdict.{IsEndOf, end_allows, end_of, no_pod, packet_of, pod_at}
 unfoldable pub use Rattle.np_rules.specs.model.Verdict.{allows}

@@ -1,55 +1,46 @@
 //! What the AdminNetworkPolicies say of one packet.
-ghost use Rattle.std.specs.Prelude.{◌≡◌, ◌+◌, [], find, length, if◌then◌else◌};
+ghost use Rattle.std.specs.Prelude.{◌≡◌, [], find, if◌then◌else◌};
 ghost use Rattle.std.specs.Option.{option_map};
 ghost use Rattle.np_model.specs.Prelude.{HasAscendingPriorities};
-ghost use Rattle.np_rules.specs.Prelude.{admin_decider, admin_places, admin_places_of, admin_rule_matches, contact_view, pod_view, subject_selects};
+ghost use Rattle.np_rules.specs.Prelude.{admin_decider, admin_rule_matches, contact_view, pod_view, subject_selects};
 ghost use Rattle.np_rules.specs.model.Places as spec;
 
 use crate::rules::admin_rule_matches;
 use crate::selection::subject_selects;
 use crate::views::{ContactView, PodView};
-use np_base::Steps;
 use np_model::{Action, AdminPolicy, AdminRule, Direction};
-use std::sync::ledger::Ledger;
 
-/// What the rule says that decides, and `None` where no rule matches. All rules of the policies that select the pod are
-/// counted.
-pub(crate) fn admin_action<L: Ledger>(
+/// What the rule says that decides, and `None` where no rule matches.
+pub(crate) fn admin_action(
     policies: &[AdminPolicy],
     direction: Direction,
     pod: &PodView<'_>,
     contact: &ContactView<'_>,
-    steps: &mut Steps<L>,
 ) -> Option<Action>
     requires { HasAscendingPriorities policies.now }
-    ensures action { result ≡ option_map (λ placed. placed.rule.action)
+    ensures { result ≡ option_map (λ placed. placed.rule.action)
         (admin_decider policies.now direction (pod_view pod.now) (contact_view contact.now)) }
-    ensures cost { steps.new ≡ steps.old + length (admin_places policies.now direction (pod_view pod.now)) }
 {
     let mut decided = None;
     for policy in policies {
-        let here = action_by(policy, direction, pod, contact, steps);
+        let here = action_by(policy, direction, pod, contact);
         decided = decided.or(here);
     }
     decided
 }
 
 // What the first matching rule of a policy says, where the policy selects the pod.
-fn action_by<L: Ledger>(
+fn action_by(
     policy: &AdminPolicy,
     direction: Direction,
     pod: &PodView<'_>,
     contact: &ContactView<'_>,
-    steps: &mut Steps<L>,
 ) -> Option<Action>
-    ensures action { result ≡ option_map (λ rule. rule.action)
+    ensures { result ≡ option_map (λ rule. rule.action)
         (find (λ rule. admin_rule_matches rule (contact_view contact.now))
         (if subject_selects policy.now.subject (pod_view pod.now) then spec.admin_rules_of direction policy.now else [])) }
-    ensures cost { steps.new ≡ steps.old
-        + length (if subject_selects policy.now.subject (pod_view pod.now) then spec.admin_rules_of direction policy.now else []) }
 {
     let rules = admin_rules_for(policy, direction, pod);
-    steps.add(rules.len() as u64);
     first_action(rules, contact)
 }
 

@@ -1,5 +1,5 @@
 //! What the baseline says of one packet.
-ghost use Rattle.std.specs.Prelude.{◌≡◌, ◌+◌, length, map, Some};
+ghost use Rattle.std.specs.Prelude.{◌≡◌, map, Some};
 ghost use Rattle.std.specs.Option.{option_map, option_copied};
 ghost use Rattle.np_rules.specs.Prelude.{base_decider, base_places, contact_view, pod_view};
 ghost use Rattle.np_rules.specs.model.Places as spec;
@@ -7,26 +7,19 @@ ghost use Rattle.np_rules.specs.model.Places as spec;
 use crate::admin_tier::first_action;
 use crate::selection::subject_selects;
 use crate::views::{ContactView, PodView};
-use np_base::Steps;
 use np_model::{Action, AdminRule, BasePolicy, Direction};
-use std::sync::ledger::Ledger;
 
-/// What the rule of the baseline says that decides, and `None` where none matches. All rules of a baseline that selects
-/// the pod are counted.
-pub(crate) fn base_action<L: Ledger>(
+/// What the rule of the baseline says that decides, and `None` where none matches.
+pub(crate) fn base_action(
     baseline: Option<&BasePolicy>,
     direction: Direction,
     pod: &PodView<'_>,
     contact: &ContactView<'_>,
-    steps: &mut Steps<L>,
 ) -> Option<Action>
-    ensures action { result ≡ option_map (λ placed. placed.rule.action)
+    ensures { result ≡ option_map (λ placed. placed.rule.action)
         (base_decider (option_copied baseline.entry) direction (pod_view pod.now) (contact_view contact.now)) }
-    ensures cost { steps.new ≡ steps.old
-        + length (base_places (option_copied baseline.entry) direction (pod_view pod.now)) }
 {
     let rules = base_rules_for(baseline, direction, pod);
-    steps.add(rules.len() as u64);
     first_action(rules, contact)
 }
 

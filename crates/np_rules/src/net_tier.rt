@@ -1,16 +1,14 @@
 //! What the NetworkPolicies say of one packet.
-ghost use Rattle.std.specs.Prelude.{◌≡◌, ◌+◌, [], None, length, if◌then◌else◌, unwrap_or};
+ghost use Rattle.std.specs.Prelude.{◌≡◌, [], None, if◌then◌else◌, unwrap_or};
 ghost use Rattle.std.specs.List.{list_any};
 ghost use Rattle.std.specs.Option.{option_map};
 ghost use Rattle.np_rules.specs.model.NetTier as spec;
-ghost use Rattle.np_rules.specs.Prelude.{contact_view, net_places, net_rule_matches, net_rules_of, net_selects, pod_view};
+ghost use Rattle.np_rules.specs.Prelude.{contact_view, net_rule_matches, net_rules_of, net_selects, pod_view};
 
 use crate::rules::net_rule_matches;
 use crate::selection::net_selects;
 use crate::views::{ContactView, PodView};
-use np_base::Steps;
 use np_model::{Direction, NetPolicy, NetRule};
-use std::sync::ledger::Ledger;
 
 /// Whether some policy isolates the pod.
 pub(crate) fn is_isolated(policies: &[NetPolicy], direction: Direction, pod: &PodView<'_>) -> bool
@@ -42,41 +40,35 @@ pub fn net_rules_of(policy: &NetPolicy, direction: Direction) -> Option<&[NetRul
     }
 }
 
-/// Whether some rule of a policy that selects the pod matches. All rules of those policies are counted.
-pub(crate) fn permits<L: Ledger>(
+/// Whether some rule of a policy that selects the pod matches.
+pub(crate) fn permits(
     policies: &[NetPolicy],
     direction: Direction,
     pod: &PodView<'_>,
     contact: &ContactView<'_>,
-    steps: &mut Steps<L>,
 ) -> bool
-    ensures answer { result ≡ spec.permits policies.now direction (pod_view pod.now) (contact_view contact.now) }
-    ensures cost { steps.new ≡ steps.old + length (net_places policies.now direction (pod_view pod.now)) }
+    ensures { result ≡ spec.permits policies.now direction (pod_view pod.now) (contact_view contact.now) }
 {
     let mut permitted = false;
     for policy in policies {
-        let here = permits_by(policy, direction, pod, contact, steps);
+        let here = permits_by(policy, direction, pod, contact);
         permitted |= here;
     }
     permitted
 }
 
 // Whether some rule of a policy matches, where the policy selects the pod.
-fn permits_by<L: Ledger>(
+fn permits_by(
     policy: &NetPolicy,
     direction: Direction,
     pod: &PodView<'_>,
     contact: &ContactView<'_>,
-    steps: &mut Steps<L>,
 ) -> bool
-    ensures answer { result
+    ensures { result
         ≡ list_any (λ rule. net_rule_matches policy.now.namespace rule (contact_view contact.now))
         (if net_selects policy.now (pod_view pod.now) then unwrap_or (net_rules_of direction policy.now) [] else []) }
-    ensures cost { steps.new ≡ steps.old
-        + length (if net_selects policy.now (pod_view pod.now) then unwrap_or (net_rules_of direction policy.now) [] else []) }
 {
     let rules = net_rules_for(policy, direction, pod);
-    steps.add(rules.len() as u64);
     some_rule_matches(policy.namespace.as_str(), rules, contact)
 }
 

@@ -1,5 +1,5 @@
 //! The rules that speak of a pod.
-ghost use Rattle.std.specs.Prelude.{◌≡◌, ◌+◌, ◌-◌, ◌^◌, ◌≤◌, ◌<◌, filter, length, map, true, Some, IfOk, OnOk};
+ghost use Rattle.std.specs.Prelude.{◌≡◌, ◌+◌, ◌-◌, ◌^◌, ◌<◌, filter, length, map, true, Some, IfOk};
 ghost use Rattle.std.specs.List.{slice_get};
 ghost use Rattle.np_conns.specs.Prelude.{IsConns, has_spot, is_spot};
 ghost use Rattle.np_model.specs.Prelude.{IsFew};
@@ -18,7 +18,9 @@ use crate::every_address::{AddrConns, EveryAddress};
 use crate::far_ends::FarEnds;
 use crate::layer_parts::{admin_parts, base_parts, net_sets};
 use crate::near_ends::{between_pods, view_at, with_address, with_stranger};
-use crate::policy_rules::{PolicyRules, isolating_policies, rules_of, selecting_policies};
+use crate::policy_rules::{
+    PolicyRules, count_rules, isolating_policies, rules_of, selecting_policies,
+};
 use crate::rule_ids::{LayerRules, places_of, rule_ids};
 use crate::side_rules::SideRules;
 use crate::stranger::Stranger;
@@ -133,100 +135,77 @@ impl<'a> PodRules<'a> {
         })
     }
 
+    /// Counts the rules, each once.
+    pub fn count<L: Ledger>(&self, steps: &mut Steps<L>)
+        ensures { steps.new ≡ steps.old + side_rule_count self.now }
+    {
+        count_rules(&self.admin, steps);
+        count_rules(&self.net, steps);
+        steps.add(self.base.len() as u64);
+    }
+
     /// The rules as sets of the protocols and ports that they match with another pod as the far end, which is named by its
-    /// place in the estate, in packets of a family. All of them are counted.
-    pub fn pod_layer<L: Ledger>(
+    /// place in the estate, in packets of a family.
+    pub fn pod_layer(
         &self,
         alloc: Global,
         peer: u32,
         family: Family,
-        steps: &mut Steps<L>,
     ) -> Result<Layer<ConnSet>, NoMemory>
         requires { peer < length self.now.lists.pods }
         ensures layer { IfOk result (IsSideLayer has_spot is_spot self.now (with_pod peer family)) }
         ensures verdict { IfOk result (SaysVerdicts has_spot is_spot self.now (with_pod peer family)) }
-        ensures cost { OnOk result (steps.new ≡ steps.old + side_rule_count self.now) }
-        ensures least { steps.old ≤ steps.new }
-        ensures most { steps.new ≤ steps.old + side_rule_count self.now }
     {
         let ends = between_pods(self.estate, self.direction, self.pod, peer, family);
-        self.layer(alloc, &ends, steps)
+        self.layer(alloc, &ends)
     }
 
-    /// The rules as sets of the protocols and ports that they match with an address as the far end. All of them are
-    /// counted.
-    pub fn point_layer<L: Ledger>(
-        &self,
-        alloc: Global,
-        address: Address,
-        steps: &mut Steps<L>,
-    ) -> Result<Layer<ConnSet>, NoMemory>
+    /// The rules as sets of the protocols and ports that they match with an address as the far end.
+    pub fn point_layer(&self, alloc: Global, address: Address) -> Result<Layer<ConnSet>, NoMemory>
         ensures layer { IfOk result (IsSideLayer has_spot is_spot self.now (with_point address)) }
         ensures verdict { IfOk result (SaysVerdicts has_spot is_spot self.now (with_point address)) }
-        ensures cost { OnOk result (steps.new ≡ steps.old + side_rule_count self.now) }
-        ensures least { steps.old ≤ steps.new }
-        ensures most { steps.new ≤ steps.old + side_rule_count self.now }
     {
         let ends = with_address(self.estate, self.direction, self.pod, &address);
-        self.layer(alloc, &ends, steps)
+        self.layer(alloc, &ends)
     }
 
     /// The rules as sets of the protocols and ports that they match with a pod that nobody has written yet as the far end.
-    /// It has no address, so the family of a packet changes nothing. All of them are counted.
-    pub fn stranger_layer<L: Ledger>(
+    /// It has no address, so the family of a packet changes nothing.
+    pub fn stranger_layer(
         &self,
         alloc: Global,
         stranger: &Stranger,
-        steps: &mut Steps<L>,
     ) -> Result<Layer<ConnSet>, NoMemory>
         ensures layer { IfOk result (IsSideLayer has_spot is_spot self.now (with_stranger stranger.now)) }
         ensures verdict { IfOk result (SaysVerdicts has_spot is_spot self.now (with_stranger stranger.now)) }
-        ensures cost { OnOk result (steps.new ≡ steps.old + side_rule_count self.now) }
-        ensures least { steps.old ≤ steps.new }
-        ensures most { steps.new ≤ steps.old + side_rule_count self.now }
     {
         let ends = with_stranger(self.estate, self.direction, self.pod, stranger);
-        self.layer(alloc, &ends, steps)
+        self.layer(alloc, &ends)
     }
 
     /// The rules as sets of what they match with all addresses of both families as far ends: addresses with protocols and
-    /// ports. One evaluation of the layer gives the verdict at every address. All of them are counted.
-    pub fn address_layer<L: Ledger>(
-        &self,
-        alloc: Global,
-        steps: &mut Steps<L>,
-    ) -> Result<Layer<AddrConns>, NoMemory>
+    /// ports. One evaluation of the layer gives the verdict at every address.
+    pub fn address_layer(&self, alloc: Global) -> Result<Layer<AddrConns>, NoMemory>
         ensures layer { IfOk result (IsSideLayer has_address_spot is_address_spot self.now with_addresses) }
         ensures verdict { IfOk result (SaysVerdicts has_address_spot is_address_spot self.now with_addresses) }
-        ensures cost { OnOk result (steps.new ≡ steps.old + side_rule_count self.now) }
-        ensures least { steps.old ≤ steps.new }
-        ensures most { steps.new ≤ steps.old + side_rule_count self.now }
     {
         let ends = EveryAddress {
             direction: self.direction,
             near: EndView::Pod(view_at(self.estate, self.pod)),
         };
-        self.layer(alloc, &ends, steps)
+        self.layer(alloc, &ends)
     }
 
-    /// The protocols and ports that the side allows at each address of both families. All rules are counted, and those that
-    /// match no address are passed over.
-    pub fn address_set<L: Ledger>(
-        &self,
-        alloc: Global,
-        steps: &mut Steps<L>,
-    ) -> Result<AddrConns, NoMemory>
+    /// The protocols and ports that the side allows at each address of both families. Rules that match no address are passed
+    /// over.
+    pub fn address_set(&self, alloc: Global) -> Result<AddrConns, NoMemory>
         ensures members { IfOk result (λ made. (place : AddressSpot) → is_address_spot place ≡ true →
             has_address_spot made place
             ≡ side_allows self.now.lists self.now.direction (near_pod self.now) (with_addresses self.now place)) }
         ensures four { IfOk result (λ made. Covers (λ n. n) IsConns 0 (2 ^ 32 - 1) made.first) }
         ensures six { IfOk result (λ made. Covers (λ n. n) IsConns 0 (2 ^ 128 - 1) made.second) }
-        ensures cost { OnOk result (steps.new ≡ steps.old + side_rule_count self.now) }
-        ensures least { steps.old ≤ steps.new }
-        ensures most { steps.new ≤ steps.old + side_rule_count self.now }
     {
         let rules = self.rules(alloc)?;
-        rules.count(steps);
         let near = view_at(self.estate, self.pod);
         let ends = EveryAddress {
             direction: self.direction,
@@ -258,20 +237,11 @@ impl<'a> PodRules<'a> {
     }
 
     // The rules as sets of what the spots stand for with these far ends.
-    fn layer<S: Cells, F: FarEnds<S>, L: Ledger>(
-        &self,
-        alloc: Global,
-        far: &F,
-        steps: &mut Steps<L>,
-    ) -> Result<Layer<S>, NoMemory>
+    fn layer<S: Cells, F: FarEnds<S>>(&self, alloc: Global, far: &F) -> Result<Layer<S>, NoMemory>
         ensures layer { IfOk result (IsSideLayer S.has S.in_space self.now (λ _. F.contact_at far.now)) }
         ensures verdict { IfOk result (SaysVerdicts S.has S.in_space self.now (λ _. F.contact_at far.now)) }
-        ensures cost { OnOk result (steps.new ≡ steps.old + side_rule_count self.now) }
-        ensures least { steps.old ≤ steps.new }
-        ensures most { steps.new ≤ steps.old + side_rule_count self.now }
     {
         let rules = self.rules(alloc)?;
-        rules.count(steps);
         let near = view_at(self.estate, self.pod);
         let admin = admin_parts(alloc, &rules.admin, far)?;
         let net = net_sets(alloc, near.namespace, &rules.net, far)?;

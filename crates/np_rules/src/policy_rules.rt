@@ -1,5 +1,5 @@
 //! The policies that speak of a pod.
-ghost use Rattle.std.specs.Prelude.{◌≡◌, ◌++◌, map, flat_map, AllPairs, IfOk, OnOk};
+ghost use Rattle.std.specs.Prelude.{◌≡◌, ◌+◌, ◌++◌, length, map, flat_map, AllPairs, IfOk, OnOk};
 ghost use Rattle.np_model.specs.Prelude.{PolicyStandsBefore};
 ghost use Rattle.np_rules.specs.PolicyRules.{AreIsolating, AreSelecting};
 ghost use Rattle.np_rules.specs.Views.{pod_view};
@@ -9,9 +9,10 @@ use crate::net_tier::isolating_rules;
 use crate::own_policies::own_policies;
 use crate::selection::subject_selects;
 use crate::views::PodView;
-use np_base::NoMemory;
+use np_base::{NoMemory, Steps};
 use np_model::{AdminPolicy, AdminRule, Direction, NetPolicy, NetRule};
 use std::alloc::Global;
+use std::sync::ledger::Ledger;
 
 /// A policy that speaks of a pod in a direction: its place in the estate's list, from 0, and its rules of the direction.
 #[derive(Drop)]
@@ -72,6 +73,15 @@ pub(crate) fn rules_of<'a, R>(
         push_all(&mut rules, policy.rules)?;
     }
     Ok(rules)
+}
+
+/// Counts the rules of policies.
+pub(crate) fn count_rules<R, L: Ledger>(policies: &[PolicyRules<'_, R>], steps: &mut Steps<L>)
+    ensures { steps.new ≡ steps.old + length (flat_map (λ policy. policy.rules.now) policies.now) }
+{
+    for policy in policies {
+        steps.add(policy.rules.len() as u64);
+    }
 }
 
 // Puts references to the items last.

@@ -1,10 +1,10 @@
 //! The rules that speak of a pod, for many pods that nobody has written yet.
-ghost use Rattle.std.specs.Prelude.{◌≡◌, ◌+◌, ◌≤◌, ◌<◌, length, map, IfOk, OnOk};
+ghost use Rattle.std.specs.Prelude.{◌≡◌, ◌<◌, length, map, IfOk};
 ghost use Rattle.std.specs.List.{AllByRecursion, list_any};
 ghost use Rattle.np_conns.specs.Prelude.{has_spot, is_spot};
 ghost use Rattle.np_conns.specs.declared.port_spot.PortSpot.{PortSpot};
 ghost use Rattle.np_rules.specs.model.Ends.{pod, stranger_end};
-ghost use Rattle.np_rules.specs.PodSides.{SaysVerdicts, near_pod, side_of, side_rule_count, with_stranger};
+ghost use Rattle.np_rules.specs.PodSides.{SaysVerdicts, near_pod, side_of, with_stranger};
 ghost use Rattle.np_rules.specs.StrangerRules.{ArePermitted, HasPorts, IsNetOf, kept_reaches, rule_of};
 ghost use Rattle.np_rules.specs.Views.{end_view};
 
@@ -15,13 +15,12 @@ use crate::peers::net_peers_match;
 use crate::pod_rules::PodRules;
 use crate::stranger::Stranger;
 use crate::views::{EndView, view_of_stranger};
-use np_base::{Cells, NoMemory, Seq, Steps};
+use np_base::{Cells, NoMemory, Seq};
 use np_conns::ConnSet;
 use np_model::{AdminRule, Direction, Estate, NetRule};
 use np_tiers::Layer;
 use std::alloc::Global;
 use std::marker::Model;
-use std::sync::ledger::Ledger;
 
 /// A rule of a NetworkPolicy, with the protocols and ports that its entries match.
 #[derive(Drop)]
@@ -126,21 +125,16 @@ impl<'a> StrangerRules<'a> {
     }
 
     /// The rules as sets of the protocols and ports that they match with such a pod as the far end, where `net` is what
-    /// the NetworkPolicies permit. All of the rules are counted.
-    pub fn layer<L: Ledger>(
+    /// the NetworkPolicies permit.
+    pub fn layer(
         &self,
         alloc: Global,
         stranger: &Stranger,
         net: ConnSet,
-        steps: &mut Steps<L>,
     ) -> Result<Layer<ConnSet>, NoMemory>
         requires { ArePermitted self.now stranger.now net }
         ensures verdict { IfOk result (SaysVerdicts has_spot is_spot self.now (with_stranger stranger.now)) }
-        ensures cost { OnOk result (steps.new ≡ steps.old + side_rule_count self.now) }
-        ensures least { steps.old ≤ steps.new }
-        ensures most { steps.new ≤ steps.old + side_rule_count self.now }
     {
-        self.count(steps);
         let ends = with_stranger(self.estate, self.direction, self.pod, stranger);
         let admin = admin_parts(alloc, &self.admin, &ends)?;
         let base = base_parts(alloc, self.base, &ends)?;
@@ -152,15 +146,6 @@ impl<'a> StrangerRules<'a> {
             net: sets,
             base,
         })
-    }
-
-    // Counts all rules.
-    fn count<L: Ledger>(&self, steps: &mut Steps<L>)
-        ensures { steps.new ≡ steps.old + side_rule_count self.now }
-    {
-        steps.add(self.admin.len() as u64);
-        steps.add(self.net.len() as u64);
-        steps.add(self.base.len() as u64);
     }
 }
 

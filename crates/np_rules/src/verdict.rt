@@ -1,7 +1,7 @@
 //! Whether one packet is allowed.
-ghost use Rattle.std.specs.Prelude.{◌≡◌, ◌+◌, Option};
+ghost use Rattle.std.specs.Prelude.{◌≡◌, Option};
 ghost use Rattle.std.specs.Option.{option_map};
-ghost use Rattle.np_rules.specs.Prelude.{IsEndOf, PlacedAdminRule, PlacedBaseRule, allows, contact_view, end_allows, end_of, end_rule_count, end_view, packet_of, packet_rule_count, pod_end, pod_view, rule_count};
+ghost use Rattle.np_rules.specs.Prelude.{IsEndOf, PlacedAdminRule, PlacedBaseRule, allows, contact_view, end_allows, end_of, end_view, packet_of, pod_end, pod_view};
 ghost use Rattle.np_rules.specs.model.Sides as spec;
 
 use crate::admin_tier::admin_action;
@@ -9,32 +9,22 @@ use crate::base_tier::base_action;
 use crate::net_tier::{is_isolated, permits};
 use crate::packet::{End, Packet};
 use crate::views::{ContactView, EndView, PodView, view_of_pod};
-use np_base::Steps;
 use np_conns::PortSpot;
 use np_model::{Action, Direction, Estate};
-use std::sync::ledger::Ledger;
 
 /// Whether a packet is allowed: by the egress side of its source, if that is a pod, and by the ingress side of its
-/// destination, if that is a pod. It takes no memory. All rules of the policies that select a side's pod are counted, of
-/// both sides, whatever they say.
+/// destination, if that is a pod. It takes no memory.
 #[tactic(auto, unfolding(crate::specs::model::Verdict::allows))]
-pub fn allows<L: Ledger>(estate: &Estate, packet: &Packet, steps: &mut Steps<L>) -> bool
+pub fn allows(estate: &Estate, packet: &Packet) -> bool
     requires source { IsEndOf estate.now packet.now.source }
     requires destination { IsEndOf estate.now packet.now.destination }
-    ensures verdict { result ≡ allows estate.now (packet_of estate.now packet.now) }
-    ensures cost { steps.new ≡ steps.old + packet_rule_count estate.now (packet_of estate.now packet.now) }
+    ensures { result ≡ allows estate.now (packet_of estate.now packet.now) }
 {
     let source = view_of_end(estate, packet.source);
     let sent = contact_of(estate, packet, packet.destination);
     let received = contact_of(estate, packet, packet.source);
-    let leaves = end_allows(estate, Direction::Egress, &source, &sent, steps);
-    let arrives = end_allows(
-        estate,
-        Direction::Ingress,
-        &received.destination,
-        &received,
-        steps,
-    );
+    let leaves = end_allows(estate, Direction::Egress, &source, &sent);
+    let arrives = end_allows(estate, Direction::Ingress, &received.destination, &received);
     leaves && arrives
 }
 
@@ -70,38 +60,34 @@ fn view_of_end(estate: &Estate, end: End) -> EndView<'_>
 }
 
 // Whether the side of an end allows what it looks at. An address has no side of its own.
-fn end_allows<L: Ledger>(
+fn end_allows(
     estate: &Estate,
     direction: Direction,
     end: &EndView<'_>,
     contact: &ContactView<'_>,
-    steps: &mut Steps<L>,
 ) -> bool
-    ensures verdict { result ≡ end_allows estate.now direction (end_view end.now) (contact_view contact.now) }
-    ensures cost { steps.new ≡ steps.old + end_rule_count estate.now direction (end_view end.now) }
+    ensures { result ≡ end_allows estate.now direction (end_view end.now) (contact_view contact.now) }
 {
     match end {
-        EndView::Pod(pod) => side_allows(estate, direction, pod, contact, steps),
+        EndView::Pod(pod) => side_allows(estate, direction, pod, contact),
         EndView::At(_) => true,
     }
 }
 
 // Whether a pod's side allows what it looks at.
 #[tactic(auto, unfolding(crate::specs::model::Sides::side_allows))]
-fn side_allows<L: Ledger>(
+fn side_allows(
     estate: &Estate,
     direction: Direction,
     pod: &PodView<'_>,
     contact: &ContactView<'_>,
-    steps: &mut Steps<L>,
 ) -> bool
-    ensures verdict { result ≡ spec.side_allows estate.now direction (pod_view pod.now) (contact_view contact.now) }
-    ensures cost { steps.new ≡ steps.old + rule_count estate.now direction (pod_view pod.now) }
+    ensures { result ≡ spec.side_allows estate.now direction (pod_view pod.now) (contact_view contact.now) }
 {
-    let admin = admin_action(estate.admin_policies(), direction, pod, contact, steps);
+    let admin = admin_action(estate.admin_policies(), direction, pod, contact);
     let isolated = is_isolated(estate.net_policies(), direction, pod);
-    let permitted = permits(estate.net_policies(), direction, pod, contact, steps);
-    let base = base_action(estate.baseline(), direction, pod, contact, steps);
+    let permitted = permits(estate.net_policies(), direction, pod, contact);
+    let base = base_action(estate.baseline(), direction, pod, contact);
     let below = if isolated { permitted } else { base_says(base) };
     admin_says(admin, below)
 }

@@ -1,4 +1,4 @@
--- Rows of destinations of one kind, and what is kept of them. For `Rows::new`, `address_rows_at` and 4 more.
+-- Rows of destinations of one kind, and what is kept of them. For `Rows::new`, `pair_rows` and 3 more.
 use Rattle.std.proofs.Common.{◌≡◌, ◌≢◌, ◌<◌, ◌≤◌, ◌+◌, ◌*◌, ◌-◌, ◌/◌, ◌%◌, ℕ, zero, suc, List, [], ◌∷◌, ◌++◌, Bool, true, false, Option, Some, None, length, map, max, slice_index, arith, refl, sym, ap, subst, ◌∙◌, inl, inr, if◌then◌else◌}
 use Rattle.std.specs.Option.{option_map}
 use Rattle.std.proofs.Math.Nat.{mul-le-mul_left}

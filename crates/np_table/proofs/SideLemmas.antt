@@ -1,12 +1,14 @@
--- The sides of the pods that stand for workloads, and of those that stand for kinds. For `address_rows_by_kind`, `address_rows` and 8 more.
-use Rattle.std.proofs.Common.{◌≡◌, ◌<◌, ◌≤◌, ◌+◌, ◌-◌, ◌*◌, ◌^◌, ℕ, List, [], Bool, true, false, ◌&&◌, Some, None, length, lit≤, arith, refl, sym, ap, subst, ◌∙◌, if◌then◌else◌, ◌≢◌, Contains}
-use Rattle.np_table.specs.Prelude.{AreEnds, Direction, Egress, EstateLists, Family, Four, Ingress, PairEnds, PortSpot, Six, address_rows, ends_of, estate_table, most_rules, pair_key, pair_rows, rows_in, rows_of_addresses, rules_of_pair, side_with_address, table_of}
+-- The sides of the pods that stand for workloads, and of those that stand for kinds.
+-- For `address_rows_at`, `address_rows_by_kind` and 9 more.
+use Rattle.std.proofs.Common.{◌≡◌, ◌<◌, ◌≤◌, ◌+◌, ◌-◌, ◌*◌, ◌^◌, ℕ, List, [], ◌∷◌, Bool, true, false, ◌&&◌, Some, None, length, lit≤, arith, refl, sym, ap, subst, ◌∙◌, if◌then◌else◌, ◌≢◌, Contains}
+use Rattle.np_table.specs.Prelude.{AreEnds, Direction, Egress, EstateLists, Family, Four, Ingress, PairEnds, PortSpot, Six, address_rows, ends_of, estate_table, most_rules, pair_key, pair_rows, rows_in, rows_of_addresses, side_with_address, table_of}
 use Rattle.np_conns.specs.Prelude.{Conns, IsConns, conns_of, has_spot, is_spot}
-use Rattle.np_model.specs.Prelude.{IsLawful, families_of}
+use Rattle.std.proofs.Math.Nat.{mul-le-mul_right}
+use Rattle.np_model.specs.Prelude.{IsLawful, Pod, families_of, has_family, or_four}
 use Rattle.np_fold.specs.Prelude.{Folding, folding_of, members_of}
 use Rattle.np_rules.specs.Prelude.{PodSide, pod, side_of, side_rule_count}
 use Rattle.np_table.proofs.KindLemmas.{conns_of-nothing, nothing, rows_in-agree, rows_in-nothing, rules-most}
-use Rattle.np_kinds.proofs.PairLemmas.{pair_allows-between, rule_count-destination, between-members}
+use Rattle.np_kinds.proofs.PairLemmas.{pair_allows-between, between-members}
 use Rattle.np_table.proofs.RangeOneList.{walk-agrees}
 use Rattle.np_conns.proofs.ConnLemmas.{conns_of-agrees, conns_of-has, conns_of-set}
 use Rattle.np_kinds.specs.Prelude.{IsWorkload, address_allows, between_pods, first_side, is_alone, kind_side, pair_allows, side_allows_pod}
@@ -76,13 +78,6 @@ ends-none lists source destination is = none_there (is_alone (folding_of lists) 
 pub ends-both : (lists : EstateLists) (source destination : ℕ) (ends : PairEnds) → ends ≡ ends_of lists source destination → AreEnds ends.sender ends.receiver
 ends-both lists source destination ends are = subst (λ (e : PairEnds). AreEnds e.sender e.receiver) (sym are) (record { lists = refl; sends = refl; receives = refl })
 
--- as many rules speak of them as of the first pods of the two workloads
-pub ends-count : (lists : EstateLists) (source destination : ℕ) (ends : PairEnds) → IsLawful lists → IsWorkload lists destination → is_alone (folding_of lists) source destination ≡ false →
-    ends ≡ ends_of lists source destination → side_rule_count ends.sender + side_rule_count ends.receiver ≡ rules_of_pair lists source destination
-ends-count lists source destination ends lawful within alone are =
-    ap (λ (e : PairEnds). side_rule_count e.sender + side_rule_count e.receiver) are
-    ∙ ap (λ (n : ℕ). side_rule_count (first_side lists Egress source) + n) (rule_count-destination lists (folding_of lists) source destination Ingress refl within alone lawful)
-
 -- what passes between them passes between the two workloads
 pub ends-pass : (lists : EstateLists) (source destination : ℕ) (ends : PairEnds) (family : Family) → is_alone (folding_of lists) source destination ≡ false → ends ≡ ends_of lists source destination →
     conns_of (between_pods ends.sender.lists ends.sender.pod ends.receiver.pod family) ≡ conns_of (pair_allows lists (folding_of lists) source destination family)
@@ -120,10 +115,9 @@ kind-most : (lists : EstateLists) (direction : Direction) (workload : ℕ) → I
 kind-most lists direction workload lawful within =
     subst (λ (n : ℕ). n ≤ most_rules lists (folding_of lists)) (sym (kind_side-count lists direction workload lawful within)) (rules-most lists (folding_of lists) direction workload within)
 
--- Two sides stand for two workloads: one sends and the other receives, as many rules speak of them as of the workloads' first pods, and between them passes what passes between the workloads.
+-- Two sides stand for two workloads: one sends and the other receives, no more rules speak of each than the most, and between them passes what passes between the workloads.
 pub record StandFor (lists : EstateLists) (source destination : ℕ) (sender receiver : PodSide) : Type 0 where
   pub both : AreEnds sender receiver
-  pub count : side_rule_count sender + side_rule_count receiver ≡ rules_of_pair lists source destination
   pub most : 2 * (side_rule_count sender + side_rule_count receiver) ≤ 4 * most_rules lists (folding_of lists)
   pub conns : (family : Family) → is_alone (folding_of lists) source destination ≡ false →
       conns_of (between_pods sender.lists sender.pod receiver.pod family) ≡ conns_of (pair_allows lists (folding_of lists) source destination family)
@@ -132,8 +126,6 @@ kinds-stand : (lists : EstateLists) (source destination : ℕ) → IsLawful list
     StandFor lists source destination (kind_side lists Egress source) (kind_side lists Ingress destination)
 kinds-stand lists source destination lawful source_in destination_in = record {
   both = record { lists = refl; sends = refl; receives = refl };
-  count = ap (λ (n : ℕ). n + side_rule_count (kind_side lists Ingress destination)) (kind_side-count lists Egress source lawful source_in) ∙ ap
-      (λ (n : ℕ). side_rule_count (first_side lists Egress source) + n) (kind_side-count lists Ingress destination lawful destination_in);
   most = omega (arith, kind-most lists Egress source lawful source_in, kind-most lists Ingress destination lawful destination_in);
   conns = λ family alone. conns_of-agrees _ _ (λ spot _. sym (kind_sides-pass lists source destination family spot lawful source_in destination_in alone));
 }
@@ -155,6 +147,23 @@ stand-rows lists source destination sender receiver families stand listed alone 
     rows_in-agree families (pair_key source destination) (λ family. conns_of (between_pods sender.lists sender.pod receiver.pod family))
     (λ family. conns_of (pair_allows lists (folding_of lists) source destination family)) (λ family. stand.conns family alone)
     ∙ ap (λ (all : List Family). rows_in all (pair_key source destination) (λ family. conns_of (pair_allows lists (folding_of lists) source destination family))) listed
+
+-- there are two families at most
+pub families-few : (pods : List Pod) → length (families_of pods) ≤ 2
+families-few pods = by (has_family pods Four) (has_family pods Six)
+  where
+    by : (four six : Bool) → length (or_four (if four then Four ∷ (if six then Six ∷ [] else []) else (if six then Six ∷ [] else []))) ≤ 2
+    by true true = omega arith
+    by true false = omega arith
+    by false true = omega arith
+    by false false = omega arith
+
+-- in each of them no more rules are looked at than the most, for each of the two ends
+pub stand-counted : (lists : EstateLists) (source destination : ℕ) (sender receiver : PodSide) (families : List Family) → StandFor lists source destination sender receiver →
+    families ≡ families_of lists.pods → length families * (side_rule_count sender + side_rule_count receiver) ≤ 4 * most_rules lists (folding_of lists)
+stand-counted lists source destination sender receiver families stand listed =
+    let few : length families ≤ 2 = subst (λ (all : List Family). length all ≤ 2) (sym listed) (families-few lists.pods) in
+    omega (arith, stand.most, mul-le-mul_right (side_rule_count sender + side_rule_count receiver) few)
 
 -- ---- kinds between which nothing may pass
 
@@ -193,8 +202,9 @@ address_rows-kind lists lists' direction workload side same lawful within is =
     (subst IsLawful same lawful) within)
     ∙ address_rows-first lists direction workload (first_side lists direction workload) refl
 
--- as many rules speak of that
-pub kind-count : (lists lists' : EstateLists) (direction : Direction) (workload : ℕ) (side : PodSide) → lists' ≡ lists → IsLawful lists' → IsWorkload lists workload →
-    side ≡ kind_side lists' direction workload → side_rule_count side ≡ side_rule_count (first_side lists direction workload)
-kind-count lists lists' direction workload side same lawful within is =
-    ap side_rule_count (is ∙ ap (λ (l : EstateLists). kind_side l direction workload) same) ∙ kind_side-count lists direction workload (subst IsLawful same lawful) within
+-- and of it no more rules speak than the most
+pub side-most : (lists lists' : EstateLists) (direction : Direction) (workload : ℕ) (side : PodSide) → lists' ≡ lists → IsLawful lists' → IsWorkload lists workload →
+    side ≡ kind_side lists' direction workload → side_rule_count side ≤ most_rules lists (folding_of lists)
+side-most lists lists' direction workload side same lawful within is =
+    subst (λ (s : PodSide). side_rule_count s ≤ most_rules lists (folding_of lists)) (sym (is ∙ ap (λ (l : EstateLists). kind_side l direction workload) same))
+    (kind-most lists direction workload (subst IsLawful same lawful) within)

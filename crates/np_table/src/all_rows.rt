@@ -11,7 +11,7 @@ ghost use Rattle.np_table.specs.ToCome as spec;
 use crate::row_cache::RowCache;
 use crate::rows::{AddressRow, Row, RowEnd, RowKey};
 use crate::rows_by_kind::{WorkloadPair, rows_by_kind};
-use crate::rows_of_addresses::address_rows_by_kind;
+use crate::rows_of_addresses::rows_by_addresses;
 use np_base::{NoMemory, Seq, Steps};
 use np_fold::{Folded, Workloads};
 use np_kinds::{KindReach, Sides};
@@ -237,7 +237,10 @@ fn address_rows_at<L: Ledger>(
 {
     let workload = (place / 2) as u32;
     let direction = direction_at(place);
-    let rows = address_rows_by_kind(alloc, sides, workload, direction, steps)?;
+    sides.ask(direction, workload)?;
+    let near = sides.at(direction, workload);
+    near.count(steps);
+    let rows = rows_by_addresses(alloc, near)?;
     with_keys(alloc, rows, workload, direction)
 }
 

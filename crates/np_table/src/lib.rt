@@ -16,7 +16,7 @@ pub use laws::{
     kinds_give_the_pairs, no_row_with_itself, one_row_for_each_address,
     one_row_where_the_same_ports_pass, rows_say_what_passes, workloads_stand_for_their_pods,
 };
-pub use pair_sets::{pair_set, set_between, set_by_kinds};
+pub use pair_sets::{count_ends, pair_set, set_between, set_by_kinds};
 pub use range_laws::{
     each_number_is_in_one_range, equal_tests_have_one_list, one_list_is_right, pieces_are_right,
 };

@@ -1,5 +1,5 @@
 //! What passes between two pods, and so between two workloads.
-ghost use Rattle.std.specs.Prelude.{◌≡◌, ◌≢◌, ◌≤◌, ◌<◌, ◌+◌, ℕ, if◌then◌else◌, None, Some, Contains, false, length, true, IfOk, IfSome};
+ghost use Rattle.std.specs.Prelude.{◌≡◌, ◌≢◌, ◌<◌, ◌+◌, ◌*◌, ℕ, if◌then◌else◌, None, Some, Contains, false, length, true, IfOk, IfSome};
 ghost use Rattle.np_conns.specs.Prelude.{IsConns, conns_of, has_spot, is_spot};
 ghost use Rattle.np_conns.specs.declared.port_spot.PortSpot.{PortSpot};
 ghost use Rattle.np_model.specs.Prelude.{IsLawful};
@@ -25,13 +25,12 @@ use std::sync::ledger::Ledger;
 /// that the egress side of the source and the ingress side of the destination both allow. `None` comes exactly where both
 /// are one workload of one pod. It holds for every two different pods of the two workloads, since no rule tells the pods
 /// of a workload apart.
-pub fn pair_set<L: Ledger>(
+pub fn pair_set(
     alloc: Global,
     folded: &Folded,
     source: u32,
     destination: u32,
     family: Family,
-    steps: &mut Steps<L>,
 ) -> Result<Option<ConnSet>, NoMemory>
     requires source { spec.IsWorkload folded.now source }
     requires destination { spec.IsWorkload folded.now destination }
@@ -40,26 +39,23 @@ pub fn pair_set<L: Ledger>(
     ensures every_pod { IfOk result (λ made. IfSome made (λ set. (p q : ℕ) (spot : PortSpot) →
         Contains (members_of (folding_of folded.now) source) p → Contains (members_of (folding_of folded.now) destination) q →
         p ≢ q → is_spot spot ≡ true → has_spot set spot ≡ spec.between_pods folded.now p q family spot)) }
-    ensures least { steps.old ≤ steps.new }
-    ensures most { steps.new ≤ steps.old + rules.rules_of_pair folded.now source destination }
 {
     let Some(ends) = rules_of_pair(alloc, folded, source, destination)? else {
         return Ok(None);
     };
-    let set = set_between(alloc, &ends.sender, &ends.receiver, family, steps)?;
+    let set = set_between(alloc, &ends.sender, &ends.receiver, family)?;
     Ok(Some(set))
 }
 
 /// The protocols and ports that pass from a workload to another in packets of a family, by the rules of the pods that stand
 /// for their kinds, which are found unless they are known. It is right of a workload with itself, too, where that has two
 /// pods.
-pub fn set_by_kinds<L: Ledger>(
+pub fn set_by_kinds(
     alloc: Global,
     sides: &mut Sides<'_>,
     source: u32,
     destination: u32,
     family: Family,
-    steps: &mut Steps<L>,
 ) -> Result<ConnSet, NoMemory>
     requires source { spec.IsWorkload sides.old.lists source }
     requires destination { spec.IsWorkload sides.old.lists destination }
@@ -67,13 +63,11 @@ pub fn set_by_kinds<L: Ledger>(
     ensures set { IfOk result (λ made. made
         ≡ conns_of (spec.pair_allows sides.old.lists (folding_of sides.old.lists) source destination family)) }
     ensures lists { sides.new.lists ≡ sides.old.lists }
-    ensures least { steps.old ≤ steps.new }
-    ensures most { steps.new ≤ steps.old + rules.rules_of_pair sides.old.lists source destination }
 {
     sides.ask_pair(source, destination)?;
     let sender = sides.at(Direction::Egress, source);
     let receiver = sides.at(Direction::Ingress, destination);
-    set_between(alloc, sender, receiver, family, steps)
+    set_between(alloc, sender, receiver, family)
 }
 
 /// The rules of a pod that sends, and those of one that receives.
@@ -136,42 +130,52 @@ fn far_pod(workloads: &Workloads, source: u32, destination: u32) -> Option<u32>
 /// The protocols and ports at which packets of a family are allowed between two pods, by their rules: those that the egress
 /// side of the sender and the ingress side of the receiver both allow. The receiver's side is asked first, since it is the
 /// one that most often allows nothing, and then the sender's is not asked.
-pub fn set_between<L: Ledger>(
+pub fn set_between(
     alloc: Global,
     sender: &PodRules<'_>,
     receiver: &PodRules<'_>,
     family: Family,
-    steps: &mut Steps<L>,
 ) -> Result<ConnSet, NoMemory>
     requires { rules.AreEnds sender.now receiver.now }
-    ensures set { IfOk result (λ made. made
+    ensures { IfOk result (λ made. made
         ≡ conns_of (spec.between_pods sender.now.lists sender.now.pod receiver.now.pod family)) }
-    ensures least { steps.old ≤ steps.new }
-    ensures most { steps.new ≤ steps.old + (side_rule_count sender.now + side_rule_count receiver.now) }
 {
-    let received = side_set(alloc, receiver, sender.pod(), family, steps)?;
+    let received = side_set(alloc, receiver, sender.pod(), family)?;
     if received.is_empty() {
         return Ok(received);
     }
-    let sent = side_set(alloc, sender, receiver.pod(), family, steps)?;
+    let sent = side_set(alloc, sender, receiver.pod(), family)?;
     sent.meet(&received)
 }
 
 // The protocols and ports that the side of a pod allows with another pod as the far end.
-fn side_set<L: Ledger>(
+fn side_set(
     alloc: Global,
     near: &PodRules<'_>,
     peer: u32,
     family: Family,
-    steps: &mut Steps<L>,
 ) -> Result<ConnSet, NoMemory>
     requires { peer < length near.now.lists.pods }
     ensures members { IfOk result (λ made. (spot : PortSpot) → is_spot spot ≡ true →
         has_spot made spot ≡ side_allows_pod near.now peer family spot) }
     ensures well { IfOk result IsConns }
-    ensures least { steps.old ≤ steps.new }
-    ensures most { steps.new ≤ steps.old + side_rule_count near.now }
 {
-    let layer = near.pod_layer(alloc, peer, family, steps)?;
+    let layer = near.pod_layer(alloc, peer, family)?;
     verdict_set(alloc, &layer)
+}
+
+/// Counts the rules of two pods, once for each family of the list, as `set_between` looks at them.
+pub fn count_ends<L: Ledger>(
+    sender: &PodRules<'_>,
+    receiver: &PodRules<'_>,
+    families: &[Family],
+    steps: &mut Steps<L>,
+)
+    ensures { steps.new
+        ≡ steps.old + length families.now * (side_rule_count sender.now + side_rule_count receiver.now) }
+{
+    for _family in families {
+        sender.count(steps);
+        receiver.count(steps);
+    }
 }

@@ -8,6 +8,7 @@ ghost use Rattle.np_table.specs.Rows as spec;
 ghost use Rattle.np_table.specs.Table.{estate_table};
 ghost use Rattle.np_table.specs.ToCome.{due_for_kinds, most_rules};
 
+use crate::pair_sets::count_ends;
 use crate::row_cache::RowCache;
 use crate::rows::Row;
 use crate::rows_of_pairs::{pair_key, rows_between};
@@ -88,8 +89,9 @@ fn rows_of_kinds<L: Ledger>(
     let sender = sides.at(Direction::Egress, pair.source);
     let receiver = sides.at(Direction::Ingress, pair.destination);
     let families = sides.folded().estate().families();
+    count_ends(sender, receiver, families, steps);
     let key = pair_key(pair.source, pair.destination);
-    rows_between(alloc, families, &key, sender, receiver, steps)
+    rows_between(alloc, families, &key, sender, receiver)
 }
 
 // Whether a workload of one pod meets itself.

@@ -1,13 +1,12 @@
 //! What passes between a workload and all addresses.
-ghost use Rattle.std.specs.Prelude.{◌≡◌, ◌≤◌, ◌+◌, ◌-◌, ◌^◌, [], ◌∷◌, ◌++◌, map, IfOk, OnOk};
+ghost use Rattle.std.specs.Prelude.{◌≡◌, ◌-◌, ◌^◌, [], ◌∷◌, ◌++◌, map, IfOk, OnOk};
 ghost use Rattle.np_addr.specs.declared.address.Family.TheVariants.{Four, Six};
-ghost use Rattle.np_rules.specs.Prelude.{side_rule_count};
-ghost use Rattle.np_kinds.specs.Prelude.{IsWorkload, first_side};
+ghost use Rattle.np_kinds.specs.Prelude.{IsWorkload};
 ghost use Rattle.np_table.specs.Prelude.{estate_table, side_with_address, stretches_of, walk};
 ghost use Rattle.np_table.specs.Rows as spec;
 
 use crate::rows::{AddressRow, AddressSpan};
-use np_base::{Cells, NoMemory, Range, Seq, Steps, V4, V6};
+use np_base::{Cells, NoMemory, Range, Seq, V4, V6};
 use np_conns::ConnSet;
 use np_fold::Folded;
 use np_kinds::{Sides, first_side};
@@ -15,76 +14,57 @@ use np_model::Direction;
 use np_pieces::Piece;
 use np_rules::{AddrConns, PodRules};
 use std::alloc::Global;
-use std::sync::ledger::Ledger;
 
 /// What passes between a workload, named by its number, and each address of IPv4 and then of IPv6: from the addresses to it
 /// in the direction of ingress, and from it to them in that of egress. The ranges of a family ascend and cover it, and other
 /// protocols and ports pass in neighbours. All addresses are answered by one evaluation of the rules.
-pub fn address_rows<L: Ledger>(
+pub fn address_rows(
     alloc: Global,
     folded: &Folded,
     workload: u32,
     direction: Direction,
-    steps: &mut Steps<L>,
 ) -> Result<Seq<AddressRow>, NoMemory>
     requires { IsWorkload folded.now workload }
-    ensures rows { IfOk result (λ made. made ≡ spec.address_rows (estate_table folded.now) workload direction) }
-    ensures least { steps.old ≤ steps.new }
-    ensures most { steps.new ≤ steps.old + side_rule_count (first_side folded.now direction workload) }
+    ensures { IfOk result (λ made. made ≡ spec.address_rows (estate_table folded.now) workload direction) }
 {
     let near = first_side(alloc, folded, direction, workload)?;
-    rows_by_addresses(alloc, &near, steps)
+    rows_by_addresses(alloc, &near)
 }
 
 /// What passes between a workload and each address, as `address_rows` has it, by the rules of the pod that stands for its
 /// kind, which are found unless they are known.
-pub fn address_rows_by_kind<L: Ledger>(
+pub fn address_rows_by_kind(
     alloc: Global,
     sides: &mut Sides<'_>,
     workload: u32,
     direction: Direction,
-    steps: &mut Steps<L>,
 ) -> Result<Seq<AddressRow>, NoMemory>
     requires { IsWorkload sides.old.lists workload }
     ensures rows { IfOk result (λ made. made ≡ spec.address_rows (estate_table sides.old.lists) workload direction) }
     ensures lists { sides.new.lists ≡ sides.old.lists }
-    ensures least { steps.old ≤ steps.new }
-    ensures most { steps.new ≤ steps.old + side_rule_count (first_side sides.old.lists direction workload) }
 {
     sides.ask(direction, workload)?;
     let near = sides.at(direction, workload);
-    rows_by_addresses(alloc, near, steps)
+    rows_by_addresses(alloc, near)
 }
 
 /// What passes between a pod and each address, by the pod's rules, as `address_rows` has it for the workload that the pod
 /// stands for. A caller that asks about a workload more than once keeps its rules.
-pub fn rows_by_addresses<L: Ledger>(
-    alloc: Global,
-    near: &PodRules<'_>,
-    steps: &mut Steps<L>,
-) -> Result<Seq<AddressRow>, NoMemory>
-    ensures rows { IfOk result (λ made. made ≡ spec.rows_of_addresses (side_with_address near.now)) }
-    ensures least { steps.old ≤ steps.new }
-    ensures most { steps.new ≤ steps.old + side_rule_count near.now }
+pub fn rows_by_addresses(alloc: Global, near: &PodRules<'_>) -> Result<Seq<AddressRow>, NoMemory>
+    ensures { IfOk result (λ made. made ≡ spec.rows_of_addresses (side_with_address near.now)) }
 {
-    let conns = conns_at(alloc, near, steps)?;
+    let conns = conns_at(alloc, near)?;
     rows_of_all(alloc, &conns)
 }
 
 // What passes between a pod and each address. An address has no rules, so the pod's own side decides.
-fn conns_at<L: Ledger>(
-    alloc: Global,
-    near: &PodRules<'_>,
-    steps: &mut Steps<L>,
-) -> Result<AddrConns, NoMemory>
+fn conns_at(alloc: Global, near: &PodRules<'_>) -> Result<AddrConns, NoMemory>
     ensures four { IfOk result (λ made. stretches_of (λ number. number) made.first
         ≡ walk (side_with_address near.now Four) 0 (2 ^ 32 - 1)) }
     ensures six { IfOk result (λ made. stretches_of (λ number. number) made.second
         ≡ walk (side_with_address near.now Six) 0 (2 ^ 128 - 1)) }
-    ensures least { steps.old ≤ steps.new }
-    ensures most { steps.new ≤ steps.old + side_rule_count near.now }
 {
-    near.address_set(alloc, steps)
+    near.address_set(alloc)
 }
 
 // The ranges of both families as rows.

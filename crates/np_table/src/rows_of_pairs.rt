@@ -1,6 +1,5 @@
 //! The rows of two workloads.
-ghost use Rattle.std.specs.Prelude.{◌≡◌, ◌≤◌, ◌+◌, ◌*◌, ◌++◌, None, IfOk, OnOk};
-ghost use Rattle.np_rules.specs.Prelude.{side_rule_count};
+ghost use Rattle.std.specs.Prelude.{◌≡◌, ◌++◌, None, IfOk, OnOk};
 ghost use Rattle.np_table.specs.PairRules as rules;
 ghost use Rattle.np_table.specs.Prelude.{estate_table};
 ghost use Rattle.np_conns.specs.Prelude.{conns_of};
@@ -10,58 +9,51 @@ ghost use Rattle.np_kinds.specs.Prelude.{IsWorkload, between_pods};
 use crate::pair_sets::{rules_of_pair, set_between};
 use crate::rows::{Row, RowEnd, RowKey};
 use np_addr::Family;
-use np_base::{Cells, NoMemory, Seq, Steps};
+use np_base::{Cells, NoMemory, Seq};
 use np_conns::ConnSet;
 use np_fold::Folded;
 use np_rules::PodRules;
 use std::alloc::Global;
-use std::sync::ledger::Ledger;
 
 /// What a workload may send to another, or to itself, as rows: one without a family where the same protocols and ports pass
 /// in all families of the list, and else one for each family, IPv4 first. There is no row where nothing passes, and none of
 /// a workload of one pod with itself.
-pub fn pair_rows<L: Ledger>(
+pub fn pair_rows(
     alloc: Global,
     folded: &Folded,
     source: u32,
     destination: u32,
-    steps: &mut Steps<L>,
 ) -> Result<Seq<Row>, NoMemory>
     requires source { IsWorkload folded.now source }
     requires destination { IsWorkload folded.now destination }
-    ensures rows { IfOk result (λ made. made ≡ spec.pair_rows (estate_table folded.now) source destination) }
-    ensures least { steps.old ≤ steps.new }
-    ensures most { steps.new ≤ steps.old + 2 * rules.rules_of_pair folded.now source destination }
+    ensures { IfOk result (λ made. made ≡ spec.pair_rows (estate_table folded.now) source destination) }
 {
     let Some(ends) = rules_of_pair(alloc, folded, source, destination)? else {
         return Ok(Seq::new(alloc));
     };
     let key = pair_key(source, destination);
     let families = folded.estate().families();
-    rows_between(alloc, families, &key, &ends.sender, &ends.receiver, steps)
+    rows_between(alloc, families, &key, &ends.sender, &ends.receiver)
 }
 
 /// The rows of these ends that say what passes between two pods.
-pub(crate) fn rows_between<L: Ledger>(
+pub(crate) fn rows_between(
     alloc: Global,
     families: &[Family],
     key: &RowKey,
     sender: &PodRules<'_>,
     receiver: &PodRules<'_>,
-    steps: &mut Steps<L>,
 ) -> Result<Seq<Row>, NoMemory>
     requires { rules.AreEnds sender.now receiver.now }
-    ensures rows { IfOk result (λ made. made ≡ spec.rows_in families.now key.now
+    ensures { IfOk result (λ made. made ≡ spec.rows_in families.now key.now
         (λ family. conns_of (between_pods sender.now.lists sender.now.pod receiver.now.pod family))) }
-    ensures least { steps.old ≤ steps.new }
-    ensures most { steps.new ≤ steps.old + 2 * (side_rule_count sender.now + side_rule_count receiver.now) }
 {
     if families.len() != 1 {
-        let four = set_between(alloc, sender, receiver, Family::Four, steps)?;
-        let six = set_between(alloc, sender, receiver, Family::Six, steps)?;
+        let four = set_between(alloc, sender, receiver, Family::Four)?;
+        let six = set_between(alloc, sender, receiver, Family::Six)?;
         return rows_of_both(alloc, key, four, six);
     }
-    let conns = set_between(alloc, sender, receiver, families[0], steps)?;
+    let conns = set_between(alloc, sender, receiver, families[0])?;
     let mut rows = Seq::new(alloc);
     add_row(&mut rows, key, None, conns)?;
     Ok(rows)

@@ -88,6 +88,6 @@ fn counted_answer<L: Ledger>(
         Question::Weight(pod, direction) => weight_text(alloc, folded.estate(), pod, direction),
         Question::Unused => unused_text(alloc, folded),
         Question::Broken(file) => broken_text(alloc, folded, file),
-        Question::Flat => flat_text(alloc, folded, &mut steps),
+        Question::Flat => flat_text(alloc, folded),
     }
 }

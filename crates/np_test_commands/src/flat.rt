@@ -1,34 +1,25 @@
 //! NetworkPolicies that alone give the verdicts of all policies, as JSON.
 
 use crate::asked::{Question, expect_answer};
-use np_base::{NoMemory, Steps};
+use np_base::NoMemory;
 use np_flatten::{Flat, flatten};
 use np_fold::Folded;
 use np_manifests::print_policy;
 use std::alloc::Global;
 use std::str::from_utf8;
-use std::sync::ledger::Ledger;
 
 /// A line for each of the policies, or why there are none.
-pub fn flat_text<L: Ledger>(
-    alloc: Global,
-    folded: &Folded,
-    steps: &mut Steps<L>,
-) -> Result<String, NoMemory> {
-    match flatten(alloc, folded, steps) {
-        Ok(flat) => policies_text(alloc, &flat, steps),
+pub fn flat_text(alloc: Global, folded: &Folded) -> Result<String, NoMemory> {
+    match flatten(alloc, folded) {
+        Ok(flat) => policies_text(alloc, &flat),
         Err(fault) => Ok(format!(in alloc; "{fault}")?),
     }
 }
 
-fn policies_text<L: Ledger>(
-    alloc: Global,
-    flat: &Flat<'_>,
-    steps: &mut Steps<L>,
-) -> Result<String, NoMemory> {
+fn policies_text(alloc: Global, flat: &Flat<'_>) -> Result<String, NoMemory> {
     let mut text = String::new(alloc);
     for group in 0..flat.count() {
-        let policy = flat.policy(group, steps)?;
+        let policy = flat.policy(group)?;
         let printed = print_policy(alloc, &policy)?;
         text.push_str(from_utf8(&printed).unwrap_or("no text"))?;
         text.push_str("\n")?;

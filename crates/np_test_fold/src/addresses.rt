@@ -1,32 +1,21 @@
 //! What a side lets pass at all addresses.
 
 use crate::layers::expect_conns;
-use np_base::{Cells, Point, Steps};
+use np_base::{Cells, Point};
 use np_rules::{AddrConns, PodRules};
 use np_tiers::{Layer, verdict_set};
 use std::alloc::Global;
 use std::process::Abort;
-use std::sync::ledger::Ledger;
 
 /// Stops the test unless what arrives from all addresses is right.
-pub fn expect_at_addresses<L: Ledger>(
-    rt: &impl Abort,
-    alloc: Global,
-    rules: &PodRules<'_>,
-    steps: &mut Steps<L>,
-) {
-    let conns = rules.address_set(alloc, steps).expect(rt, "connections");
+pub fn expect_at_addresses(rt: &impl Abort, alloc: Global, rules: &PodRules<'_>) {
+    let conns = rules.address_set(alloc).expect(rt, "connections");
     expect_from_block(rt, alloc, &conns);
 }
 
 /// The same by the layer.
-pub fn expect_by_layer_of_addresses<L: Ledger>(
-    rt: &impl Abort,
-    alloc: Global,
-    rules: &PodRules<'_>,
-    steps: &mut Steps<L>,
-) {
-    let layer = rules.address_layer(alloc, steps).expect(rt, "a layer");
+pub fn expect_by_layer_of_addresses(rt: &impl Abort, alloc: Global, rules: &PodRules<'_>) {
+    let layer = rules.address_layer(alloc).expect(rt, "a layer");
     expect_block_allowed(rt, alloc, &layer);
 }
 

@@ -21,33 +21,31 @@ pub fn expect_right(rt: &impl Abort, found: Result<bool, NoMemory>, name: &str) 
     assert!(rt; is_right, "{name}");
 }
 
-// Stops the test unless the list answers as it should, with a counter on the ledger of this blank.
-fn expect_counted<L: Ledger>(rt: &impl Abort, alloc: Global, folded: &Folded, blank: Blank)
-    requires workloads { number_of_workloads folded.now ≡ 2 }
+// Stops the test unless there are as many rows as there should be, with a counter on the ledger of this blank.
+fn expect_row_count<L: Ledger>(rt: &impl Abort, alloc: Global, folded: &Folded, blank: Blank)
     requires name { blank.name ≡ L.name }
     requires parts { blank.parts ≡ L.parts }
     requires some { 0 < blank.parts }
 {
     let mut steps: Steps<L> = Steps::new(blank);
-    expect_rows(rt, alloc, folded, &mut steps);
-    expect_kinds(rt, alloc, folded, &mut steps);
-}
-
-// What passes between the two workloads, and between them and addresses.
-fn expect_rows<L: Ledger>(rt: &impl Abort, alloc: Global, folded: &Folded, steps: &mut Steps<L>)
-    requires { number_of_workloads folded.now ≡ 2 }
-{
-    let set = is_pair_set_right(alloc, folded, steps);
-    expect_right(rt, set, "the set of a pair");
-    let rows = are_pair_rows_right(alloc, folded, steps);
-    expect_right(rt, rows, "the rows of a pair");
-    let ranges = are_address_rows_right(alloc, folded, steps);
-    expect_right(rt, ranges, "the rows of addresses");
-    let count = counted_rows(alloc, folded, steps).expect(rt, "rows");
+    let count = counted_rows(alloc, folded, &mut steps).expect(rt, "rows");
     assert!(rt; count == 15, "the number of rows");
 }
 
-// What is asked without a counter.
+// What passes between the two workloads, and between them and addresses.
+fn expect_rows(rt: &impl Abort, alloc: Global, folded: &Folded)
+    requires { number_of_workloads folded.now ≡ 2 }
+{
+    let set = is_pair_set_right(alloc, folded);
+    expect_right(rt, set, "the set of a pair");
+    let rows = are_pair_rows_right(alloc, folded);
+    expect_right(rt, rows, "the rows of a pair");
+    let ranges = are_address_rows_right(alloc, folded);
+    expect_right(rt, ranges, "the rows of addresses");
+    expect_kinds(rt, alloc, folded);
+}
+
+// What is asked of the workloads themselves.
 fn expect_folded(rt: &impl Abort, alloc: Global, folded: &Folded)
     requires { number_of_workloads folded.now ≡ 2 }
 {
@@ -62,5 +60,6 @@ fn answers_of_folded(rt: HostRuntime) {
     let folded = folded_list(&rt, rt.alloc());
     assert!(rt; folded.workloads().count() == 2);
     expect_folded(&rt, rt.alloc(), &folded);
-    expect_counted::<Brand>(&rt, rt.alloc(), &folded, Blank::new(1));
+    expect_rows(&rt, rt.alloc(), &folded);
+    expect_row_count::<Brand>(&rt, rt.alloc(), &folded, Blank::new(1));
 }

@@ -2,40 +2,26 @@
 ghost use Rattle.std.specs.Prelude.{◌≡◌, length};
 
 use np_addr::{Family, read_address};
-use np_base::Steps;
 use np_conns::{ConnSet, print_conns};
 use np_rules::PodRules;
 use np_tiers::{Layer, verdict_set};
 use std::alloc::Global;
 use std::process::Abort;
-use std::sync::ledger::Ledger;
 
 /// Stops the test unless the rule of the first pod and that of all pods let it in, and the one of the block does not.
-pub fn expect_from_pod<L: Ledger>(
-    rt: &impl Abort,
-    alloc: Global,
-    rules: &PodRules<'_>,
-    steps: &mut Steps<L>,
-)
+pub fn expect_from_pod(rt: &impl Abort, alloc: Global, rules: &PodRules<'_>)
     requires { length rules.now.lists.pods ≡ 2 }
 {
     let layer = rules
-        .pod_layer(alloc, 0, Family::Four, steps)
+        .pod_layer(alloc, 0, Family::Four)
         .expect(rt, "a layer");
     expect_just(rt, alloc, &layer, "TCP 80; UDP 53");
 }
 
 /// Stops the test unless the rule of the block alone lets the address 10.0.0.1 in.
-pub fn expect_from_address<L: Ledger>(
-    rt: &impl Abort,
-    alloc: Global,
-    rules: &PodRules<'_>,
-    steps: &mut Steps<L>,
-) {
+pub fn expect_from_address(rt: &impl Abort, alloc: Global, rules: &PodRules<'_>) {
     let address = read_address("10.0.0.1").expect(rt, "an address");
-    let layer = rules
-        .point_layer(alloc, address, steps)
-        .expect(rt, "a layer");
+    let layer = rules.point_layer(alloc, address).expect(rt, "a layer");
     expect_just(rt, alloc, &layer, "TCP 81");
 }
 

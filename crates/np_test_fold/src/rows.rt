@@ -3,41 +3,32 @@ ghost use Rattle.std.specs.Prelude.{◌≡◌};
 ghost use Rattle.np_kinds.specs.Prelude.{number_of_workloads};
 
 use np_addr::Family;
-use np_base::{NoMemory, Steps};
+use np_base::NoMemory;
 use np_conns::{ConnSet, print_conns};
 use np_fold::{Folded, Workloads};
 use np_model::Direction;
 use np_report::{Report, row_text};
 use np_table::{AddressRow, Row, address_rows, pair_rows, pair_set};
 use std::alloc::Global;
-use std::sync::ledger::Ledger;
 
 /// What passes from the first workload to the second.
 pub static PAIR: &str = "TCP 80-90; UDP 53";
 
 /// Whether what passes from the first workload to the second in IPv4 is right.
-pub fn is_pair_set_right<L: Ledger>(
-    alloc: Global,
-    folded: &Folded,
-    steps: &mut Steps<L>,
-) -> Result<bool, NoMemory>
+pub fn is_pair_set_right(alloc: Global, folded: &Folded) -> Result<bool, NoMemory>
     requires { number_of_workloads folded.now ≡ 2 }
 {
-    match pair_set(alloc, folded, 0, 1, Family::Four, steps)? {
+    match pair_set(alloc, folded, 0, 1, Family::Four)? {
         Some(conns) => are_conns(alloc, &conns, PAIR),
         None => Ok(false),
     }
 }
 
 /// Whether these two have the one row that they should.
-pub fn are_pair_rows_right<L: Ledger>(
-    alloc: Global,
-    folded: &Folded,
-    steps: &mut Steps<L>,
-) -> Result<bool, NoMemory>
+pub fn are_pair_rows_right(alloc: Global, folded: &Folded) -> Result<bool, NoMemory>
     requires { number_of_workloads folded.now ≡ 2 }
 {
-    let rows = pair_rows(alloc, folded, 0, 1, steps)?;
+    let rows = pair_rows(alloc, folded, 0, 1)?;
     match rows.items() {
         [row] => is_row_right(alloc, folded.workloads(), row),
         _ => Ok(false),
@@ -53,14 +44,10 @@ fn is_row_right(alloc: Global, workloads: &Workloads, row: &Row) -> Result<bool,
 }
 
 /// Whether the rows of the first workload with all addresses are right, as it sends.
-pub fn are_address_rows_right<L: Ledger>(
-    alloc: Global,
-    folded: &Folded,
-    steps: &mut Steps<L>,
-) -> Result<bool, NoMemory>
+pub fn are_address_rows_right(alloc: Global, folded: &Folded) -> Result<bool, NoMemory>
     requires { number_of_workloads folded.now ≡ 2 }
 {
-    let rows = address_rows(alloc, folded, 0, Direction::Egress, steps)?;
+    let rows = address_rows(alloc, folded, 0, Direction::Egress)?;
     are_ranges_right(alloc, rows.items())
 }
 

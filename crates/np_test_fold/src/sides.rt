@@ -5,14 +5,13 @@ ghost use Rattle.np_kinds.specs.Prelude.{number_of_workloads};
 use crate::answers::expect_right;
 use crate::rows::{PAIR, are_conns, are_ranges_right};
 use np_addr::Family;
-use np_base::{NoMemory, Steps};
+use np_base::NoMemory;
 use np_fold::Folded;
 use np_kinds::{KindReach, Sides, first_side};
 use np_model::Direction;
 use np_table::{address_rows_by_kind, set_by_kinds};
 use std::alloc::Global;
 use std::process::Abort;
-use std::sync::ledger::Ledger;
 
 /// Whether the first workload has the rules of the pod `c`, which is the third of the list.
 pub fn is_first_side_right(alloc: Global, folded: &Folded) -> Result<bool, NoMemory>
@@ -31,19 +30,14 @@ pub fn is_reach_right(alloc: Global, folded: &Folded) -> Result<bool, NoMemory>
 }
 
 /// Stops the test unless what is found by the rules of kinds is right.
-pub fn expect_kinds<L: Ledger>(
-    rt: &impl Abort,
-    alloc: Global,
-    folded: &Folded,
-    steps: &mut Steps<L>,
-)
+pub fn expect_kinds(rt: &impl Abort, alloc: Global, folded: &Folded)
     requires { number_of_workloads folded.now ≡ 2 }
 {
     let mut sides = Sides::new(alloc, folded);
     expect_right(rt, are_sides_right(&mut sides), "the rules of kinds");
-    let set = is_set_right(alloc, &mut sides, steps);
+    let set = is_set_right(alloc, &mut sides);
     expect_right(rt, set, "the set of a pair, by kinds");
-    let ranges = are_ranges_right_by_kind(alloc, &mut sides, steps);
+    let ranges = are_ranges_right_by_kind(alloc, &mut sides);
     expect_right(rt, ranges, "the rows of addresses, by kinds");
 }
 
@@ -59,25 +53,17 @@ fn are_sides_right(sides: &mut Sides<'_>) -> Result<bool, NoMemory>
     Ok(sender == 2 && receiver == 0)
 }
 
-fn is_set_right<L: Ledger>(
-    alloc: Global,
-    sides: &mut Sides<'_>,
-    steps: &mut Steps<L>,
-) -> Result<bool, NoMemory>
+fn is_set_right(alloc: Global, sides: &mut Sides<'_>) -> Result<bool, NoMemory>
     requires { number_of_workloads sides.old.lists ≡ 2 }
     ensures { sides.new.lists ≡ sides.old.lists }
 {
-    let conns = set_by_kinds(alloc, sides, 0, 1, Family::Four, steps)?;
+    let conns = set_by_kinds(alloc, sides, 0, 1, Family::Four)?;
     are_conns(alloc, &conns, PAIR)
 }
 
-fn are_ranges_right_by_kind<L: Ledger>(
-    alloc: Global,
-    sides: &mut Sides<'_>,
-    steps: &mut Steps<L>,
-) -> Result<bool, NoMemory>
+fn are_ranges_right_by_kind(alloc: Global, sides: &mut Sides<'_>) -> Result<bool, NoMemory>
     requires { number_of_workloads sides.old.lists ≡ 2 }
 {
-    let rows = address_rows_by_kind(alloc, sides, 0, Direction::Egress, steps)?;
+    let rows = address_rows_by_kind(alloc, sides, 0, Direction::Egress)?;
     are_ranges_right(alloc, rows.items())
 }

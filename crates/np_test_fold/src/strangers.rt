@@ -3,13 +3,12 @@ ghost use Rattle.std.specs.Prelude.{◌≡◌, length, IfOk};
 ghost use Rattle.np_rules.specs.Prelude.{ArePermitted};
 
 use crate::layers::expect_just;
-use np_base::{NoMemory, Steps};
+use np_base::NoMemory;
 use np_conns::ConnSet;
 use np_model::{Direction, Estate};
 use np_rules::{PodRules, Stranger, StrangerRules, joined_set};
 use std::alloc::Global;
 use std::process::Abort;
-use std::sync::ledger::Ledger;
 
 // As much arrives from it as from the first pod.
 static WANTED: &str = "TCP 80; UDP 53";
@@ -25,46 +24,26 @@ fn stranger_like_the_first(rt: &impl Abort, estate: &Estate) -> Stranger
 }
 
 /// Stops the test unless what arrives from a pod that nobody has written yet is right, by the rules of a side.
-pub fn expect_stranger_by_rules<L: Ledger>(
-    rt: &impl Abort,
-    alloc: Global,
-    rules: &PodRules<'_>,
-    steps: &mut Steps<L>,
-)
+pub fn expect_stranger_by_rules(rt: &impl Abort, alloc: Global, rules: &PodRules<'_>)
     requires { length rules.now.lists.pods ≡ 2 }
 {
     let stranger = stranger_like_the_first(rt, rules.estate());
-    let layer = rules
-        .stranger_layer(alloc, &stranger, steps)
-        .expect(rt, "a layer");
+    let layer = rules.stranger_layer(alloc, &stranger).expect(rt, "a layer");
     expect_just(rt, alloc, &layer, WANTED);
 }
 
 /// The same by the rules that are kept for such pods.
-pub fn expect_stranger_by_kept<L: Ledger>(
-    rt: &impl Abort,
-    alloc: Global,
-    estate: &Estate,
-    steps: &mut Steps<L>,
-)
+pub fn expect_stranger_by_kept(rt: &impl Abort, alloc: Global, estate: &Estate)
     requires { length estate.now.pods ≡ 2 }
 {
     let rules = StrangerRules::of(alloc, estate, 1, Direction::Ingress).expect(rt, "rules");
     let stranger = stranger_like_the_first(rt, estate);
-    expect_kept(rt, alloc, &rules, &stranger, steps);
+    expect_kept(rt, alloc, &rules, &stranger);
 }
 
-fn expect_kept<L: Ledger>(
-    rt: &impl Abort,
-    alloc: Global,
-    rules: &StrangerRules<'_>,
-    stranger: &Stranger,
-    steps: &mut Steps<L>,
-) {
+fn expect_kept(rt: &impl Abort, alloc: Global, rules: &StrangerRules<'_>, stranger: &Stranger) {
     let net = permitted(alloc, rules, stranger).expect(rt, "what is permitted");
-    let layer = rules
-        .layer(alloc, stranger, net, steps)
-        .expect(rt, "a layer");
+    let layer = rules.layer(alloc, stranger, net).expect(rt, "a layer");
     expect_just(rt, alloc, &layer, WANTED);
 }
 

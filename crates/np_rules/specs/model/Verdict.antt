@@ -1,10 +1,9 @@
 -- Whether a packet is allowed.
-use Rattle.std.specs.Prelude.{ℕ, ◌+◌, ◌<◌, [], length, Bool, true, ◌&&◌}
+use Rattle.std.specs.Prelude.{ℕ, ◌<◌, [], length, Bool, true, ◌&&◌}
 use Rattle.std.specs.List.{slice_get}
 use Rattle.std.specs.Option.{option_map_or}
 use Rattle.np_rules.specs.Types.{Direction, Egress, EstateLists, Ingress}
 use Rattle.np_rules.specs.model.Ends.{ModelEnd, Contact, ModelPacket, PodEnd, pod, address, contact_of, pod_end}
-use Rattle.np_rules.specs.model.Places.{end_rule_count}
 use Rattle.np_rules.specs.model.Sides.{side_allows}
 use Rattle.np_rules.specs.declared.packet.End.{End as PlacedEnd}
 use Rattle.np_rules.specs.declared.packet.End.TheVariants as placed
@@ -21,10 +20,6 @@ end_allows lists direction (address a) contact = true
 unfoldable pub allows : EstateLists → ModelPacket → Bool
 allows lists packet = end_allows lists Egress packet.source (contact_of Egress packet)
     && end_allows lists Ingress packet.destination (contact_of Ingress packet)
-
--- how many rules speak of the ends of a packet, each in its direction
-abbrev pub packet_rule_count : EstateLists → ModelPacket → ℕ
-packet_rule_count lists packet = end_rule_count lists Egress packet.source + end_rule_count lists Ingress packet.destination
 
 -- ---- packets that name pods by their places in the estate
 

@@ -1,4 +1,4 @@
-use Rattle.std.proofs.Common.{◌≡◌, ◌≤◌, false}
+use Rattle.std.proofs.Common.{◌≡◌, false}
 use Rattle.std.specs.List.{list_any}
 use Rattle.np_classes.specs.Classes.{places}
 use Rattle.np_flatten.proofs.differ.differ_at_some.Given as goal
@@ -6,7 +6,4 @@ use Rattle.np_flatten.specs.Prelude.{differ_at}
 
 -- at none of the workloads so far do they differ
 abbrev pub invariant-loop-third : goal.invariant-loop-third
-invariant-loop-third g l = record {
-  none : list_any (differ_at l.passing l.a l.b) (places l.third) ≡ false;
-  least : l.fn.steps ≤ l.steps;
-}
+invariant-loop-third l = list_any (differ_at l.passing l.a l.b) (places l.third) ≡ false

@@ -1,10 +1,7 @@
-use Rattle.std.proofs.Common.{◌≤◌, take}
+use Rattle.std.proofs.Common.{take}
 use Rattle.np_flatten.proofs.unlike.first_unlike.Given as goal
 use Rattle.np_flatten.specs.Prelude.{IsLeastUnlike}
 
 -- what was found is the least among the workloads so far
 abbrev pub invariant-loop-workload : goal.invariant-loop-workload
-invariant-loop-workload g l = record {
-  found : IsLeastUnlike l.passing (take l.workload-index l.workload-items) l.found;
-  least : l.fn.steps ≤ l.steps;
-}
+invariant-loop-workload l = IsLeastUnlike l.passing (take l.workload-index l.workload-items) l.found

@@ -1,11 +1,8 @@
-use Rattle.std.proofs.Common.{◌≡◌, ◌≤◌, flat_map}
+use Rattle.std.proofs.Common.{◌≡◌, flat_map}
 use Rattle.np_classes.specs.Classes.{places}
 use Rattle.np_flatten.proofs.flat.Flat.ingress_rules.Given as goal
 use Rattle.np_flatten.specs.Prelude.{rules_from_group}
 
 -- the rules of the groups so far
 abbrev pub invariant-loop-sender : goal.invariant-loop-sender
-invariant-loop-sender g l = record {
-  rules : l.rules ≡ flat_map (rules_from_group l.self l.group) (places l.sender);
-  least : l.fn.steps ≤ l.steps;
-}
+invariant-loop-sender l = l.rules ≡ flat_map (rules_from_group l.self l.group) (places l.sender)

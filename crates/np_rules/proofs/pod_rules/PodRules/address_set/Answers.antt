@@ -1,12 +1,11 @@
-use Rattle.std.proofs.Common.{ℕ, List, map, refl, ap, ◌∙◌, arith}
+use Rattle.std.proofs.Common.{ℕ, List, map, refl, ap, ◌∙◌}
 use Rattle.np_rules.specs.Prelude.{Beside, Layer, Piece, PodEnd, PodSide, address_contact, address_of, has_address_spot, is_address_spot, near_pod, pod, pod_view, side_allows, with_addresses}
 use Rattle.np_conns.specs.Prelude.{Conns}
 use Rattle.np_rules.proofs.KeptLemmas.{walk_of_kept}
-use Rattle.np_rules.proofs.PodSideLemmas.{kept_count}
 use Rattle.np_rules.proofs.pod_rules.PodRules.address_set.Goals as goal
 
 pub returns-clause-members : goal.returns-clause-members
-returns-clause-members g c = λ place within.
+returns-clause-members c = λ place within.
     let direction = c.self.inside.direction in
     let side = c.args.self.now in
     let rules = c.in_ok-rules.rules in
@@ -20,13 +19,3 @@ returns-clause-members g c = λ place within.
     (rw c.deref-4.ensures.value at c.in_ok-net_sets.ensures) c.in_ok-base_parts.ensures place within
     ∙ ap (λ (p : PodEnd). side_allows side.lists side.direction (near_pod side) (address_contact direction (pod p) place)) c.view_at.ensures
     ∙ ap (λ (s : PodSide). side_allows side.lists side.direction (near_pod side) (with_addresses s place)) c.self.view_is
-
-pub returns-clause-cost : goal.returns-clause-cost
-returns-clause-cost g c =
-    let rules = c.in_ok-rules.rules in
-    omega (arith, kept_count c.args.self.now rules.admin.items (λ rule. rule.now) rules.isolated rules.net.items (λ rule. rule.now) rules.base.now c.in_ok-rules.ensures)
-
-pub returns-clause-most : goal.returns-clause-most
-returns-clause-most g c =
-    let rules = c.in_ok-rules.rules in
-    omega (arith, kept_count c.args.self.now rules.admin.items (λ rule. rule.now) rules.isolated rules.net.items (λ rule. rule.now) rules.base.now c.in_ok-rules.ensures)

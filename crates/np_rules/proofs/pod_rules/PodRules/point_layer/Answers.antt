@@ -6,13 +6,13 @@ use Rattle.np_rules.proofs.OneEndLemmas.{same_contacts}
 use Rattle.np_rules.proofs.pod_rules.PodRules.point_layer.Goals as goal
 
 pub returns-clause-layer : goal.returns-clause-layer
-returns-clause-layer g c = subst (λ (at : PortSpot → Contact). IfOk c.layer.result (IsSideLayer has_spot is_spot c.args.self.now (λ _. at)))
+returns-clause-layer c = subst (λ (at : PortSpot → Contact). IfOk c.layer.result (IsSideLayer has_spot is_spot c.args.self.now (λ _. at)))
     (same_contacts c.with_address-ends.result c.self.inside.direction (pod (pod_at c.self.inside.estate.now c.self.inside.pod)) (address c.args.address)
     (family_of c.args.address) c.with_address-ends.ensures.far c.with_address-ends.ensures.destination c.with_address-ends.ensures.family ∙ ap (with_point c.args.address) c.self.view_is)
     c.layer.ensures.layer
 
 pub returns-clause-verdict : goal.returns-clause-verdict
-returns-clause-verdict g c = subst (λ (at : PortSpot → Contact). IfOk c.layer.result (SaysVerdicts has_spot is_spot c.args.self.now (λ _. at)))
+returns-clause-verdict c = subst (λ (at : PortSpot → Contact). IfOk c.layer.result (SaysVerdicts has_spot is_spot c.args.self.now (λ _. at)))
     (same_contacts c.with_address-ends.result c.self.inside.direction (pod (pod_at c.self.inside.estate.now c.self.inside.pod)) (address c.args.address)
     (family_of c.args.address) c.with_address-ends.ensures.far c.with_address-ends.ensures.destination c.with_address-ends.ensures.family ∙ ap (with_point c.args.address) c.self.view_is)
     c.layer.ensures.verdict

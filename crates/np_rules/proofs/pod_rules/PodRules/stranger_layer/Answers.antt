@@ -5,13 +5,13 @@ use Rattle.np_rules.proofs.OneEndLemmas.{same_contacts}
 use Rattle.np_rules.proofs.pod_rules.PodRules.stranger_layer.Goals as goal
 
 pub returns-clause-layer : goal.returns-clause-layer
-returns-clause-layer g c = subst (λ (at : PortSpot → Contact). IfOk c.layer.result (IsSideLayer has_spot is_spot c.args.self.now (λ _. at)))
+returns-clause-layer c = subst (λ (at : PortSpot → Contact). IfOk c.layer.result (IsSideLayer has_spot is_spot c.args.self.now (λ _. at)))
     (same_contacts c.with_stranger-ends.result c.self.inside.direction (pod (pod_at c.self.inside.estate.now c.self.inside.pod))
     (pod (stranger_end c.args.stranger.now)) Four c.with_stranger-ends.ensures.far c.with_stranger-ends.ensures.destination c.with_stranger-ends.ensures.family ∙ ap
     (with_stranger c.args.stranger.now) c.self.view_is) c.layer.ensures.layer
 
 pub returns-clause-verdict : goal.returns-clause-verdict
-returns-clause-verdict g c = subst (λ (at : PortSpot → Contact). IfOk c.layer.result (SaysVerdicts has_spot is_spot c.args.self.now (λ _. at)))
+returns-clause-verdict c = subst (λ (at : PortSpot → Contact). IfOk c.layer.result (SaysVerdicts has_spot is_spot c.args.self.now (λ _. at)))
     (same_contacts c.with_stranger-ends.result c.self.inside.direction (pod (pod_at c.self.inside.estate.now c.self.inside.pod))
     (pod (stranger_end c.args.stranger.now)) Four c.with_stranger-ends.ensures.far c.with_stranger-ends.ensures.destination c.with_stranger-ends.ensures.family ∙ ap
     (with_stranger c.args.stranger.now) c.self.view_is) c.layer.ensures.verdict

@@ -6,7 +6,7 @@ use Rattle.np_rules.proofs.StrangerLemmas.{says_of_stranger}
 use Rattle.np_rules.proofs.stranger_rules.StrangerRules.layer.Goals as goal
 
 pub returns-clause-verdict : goal.returns-clause-verdict
-returns-clause-verdict g c =
+returns-clause-verdict c =
     let inside = c.self.inside in
     let side = side_of inside.estate.now inside.pod inside.direction in
     let made : Layer Conns = record { admin = c.in_ok-admin.admin; isolated = inside.isolated; net = c.push.new.self; base = c.in_ok-base.base } in
