@@ -10,14 +10,12 @@ use crate::order::first_number;
 use crate::part::Part;
 use crate::side::NamedSide;
 use np_addr::Family;
-use np_base::{Cells, NoMemory, Seq, Steps};
+use np_base::{Cells, NoMemory, Seq};
 use np_conns::ConnSet;
 use np_model::{Direction, Estate};
 use np_rules::{Decider, End, PodRules};
 use np_tiers::{Layer, Marked, carve};
 use std::alloc::Global;
-use std::marker::Brand;
-use std::sync::ledger::{Blank, Ledger};
 
 /// What decides every packet of a flow, at one side: with `Egress` at the source, with `Ingress` at the destination. There is
 /// one part for each decider that decides some protocol and port, with exactly those that it decides, in the order of the
@@ -92,7 +90,7 @@ fn parts_with(
     ensures { IfOk result (AreRightParts (λ spot.
         decider rules.now.lists rules.now.direction (pod (near_pod rules.now)) (with_end far family rules.now spot))) }
 {
-    let layer = layer_with::<Brand>(alloc, rules, far, family, Blank::new(1))?;
+    let layer = layer_with(alloc, rules, far, family)?;
     let side = NamedSide::of(alloc, rules, &layer)?;
     let entries = carve(alloc, &layer)?;
     let mut parts = named_parts(alloc, &side, entries)?;
@@ -100,26 +98,20 @@ fn parts_with(
     Ok(Seq::from_vec(parts))
 }
 
-// The rules that speak of a pod, as sets of what they match with a far end. They are counted, and nobody asks how many they
-// were.
-fn layer_with<L: Ledger>(
+// The rules that speak of a pod, as sets of what they match with a far end.
+fn layer_with(
     alloc: Global,
     rules: &PodRules<'_>,
     far: End,
     family: Family,
-    blank: Blank,
 ) -> Result<Layer<ConnSet>, NoMemory>
     requires far { IsEndOf rules.now.lists far }
     requires family { IsFamilyAt far family }
-    requires name { blank.name ≡ L.name }
-    requires parts { blank.parts ≡ L.parts }
-    requires some { 0 < blank.parts }
     ensures { IfOk result (IsSideLayer has_spot is_spot rules.now (with_end far family)) }
 {
-    let mut steps: Steps<L> = Steps::new(blank);
     match far {
-        End::Pod(peer) => rules.pod_layer(alloc, peer, family, &mut steps),
-        End::At(address) => rules.point_layer(alloc, address, &mut steps),
+        End::Pod(peer) => rules.pod_layer(alloc, peer, family),
+        End::At(address) => rules.point_layer(alloc, address),
     }
 }
 

@@ -1,5 +1,5 @@
 //! The walk over the requirements.
-ghost use Rattle.std.specs.Prelude.{◌≡◌, ◌<◌, IfOk, IsTrue};
+ghost use Rattle.std.specs.Prelude.{◌≡◌, IfOk, IsTrue};
 ghost use Rattle.np_exposure.specs.Prelude.{AreWalked, IsExposure, IsLeaf, IsState, StandFor, StandForAll, are_at};
 ghost use Rattle.np_exposure.specs.steps.Walks as walks;
 
@@ -10,13 +10,11 @@ use crate::pending::{Pending, all_joined};
 use crate::sided_requirement::SidedRequirement;
 use crate::step::{Left, next_step};
 use crate::witness::stranger_of;
-use np_base::{NoMemory, Seq, Steps};
+use np_base::{NoMemory, Seq};
 use np_conns::ConnSet;
 use np_rules::{Stranger, StrangerRules};
 use np_tiers::verdict_set;
 use std::alloc::Global;
-use std::marker::Brand;
-use std::sync::ledger::{Blank, Ledger};
 
 /// The rows of the requirements that are left, with the choices that are left. Where a requirement can be both met and
 /// missed, the case with fewer choices is a call of its own, and the other goes on here. So calls stand at most 16 deep in
@@ -69,27 +67,22 @@ fn leaf<'a>(
     ensures { IfOk result (λ rows. IsLeaf rules.now left.now.state.items rows.items) }
 {
     let stranger = stranger_of(alloc, &left.state)?;
-    let conns = exposed::<Brand>(alloc, rules, &left.net, &stranger, Blank::new(1))?;
+    let conns = exposed(alloc, rules, &left.net, &stranger)?;
     OpenRow::alone(alloc, conns)
 }
 
-// What the rules allow a stranger. They are counted, and nobody asks how many they were.
-fn exposed<L: Ledger>(
+// What the rules allow a stranger.
+fn exposed(
     alloc: Global,
     rules: &StrangerRules<'_>,
     net: &OpenRules<'_>,
     stranger: &Stranger,
-    blank: Blank,
 ) -> Result<ConnSet, NoMemory>
-    requires net { StandFor rules.now net.now stranger.now }
-    requires name { blank.name ≡ L.name }
-    requires parts { blank.parts ≡ L.parts }
-    requires some { 0 < blank.parts }
+    requires { StandFor rules.now net.now stranger.now }
     ensures { IfOk result (IsExposure rules.now stranger.now) }
 {
-    let mut steps: Steps<L> = Steps::new(blank);
     let permitted = net.permitted(alloc, rules.namespace(), stranger)?;
-    let layer = rules.layer(alloc, stranger, permitted, &mut steps)?;
+    let layer = rules.layer(alloc, stranger, permitted)?;
     let conns = verdict_set(alloc, &layer)?;
     Ok(conns)
 }

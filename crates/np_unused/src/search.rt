@@ -12,14 +12,12 @@ ghost use Rattle.np_kinds.specs.Prelude.{first_ends};
 use crate::kind_pods::{KindPod, kind_pods};
 use crate::used_rules::{UsedRules, has_each};
 use np_addr::Family;
-use np_base::{NoMemory, Steps};
+use np_base::NoMemory;
 use np_fold::Folded;
 use np_model::{Direction, Estate};
 use np_reach::Reach;
 use np_rules::{LayerRules, PodRules};
 use std::alloc::Global;
-use std::marker::Brand;
-use std::sync::ledger::{Blank, Ledger};
 
 /// The kinds of workloads of a cluster in a direction: the pods that stand for them, and which of them the side of each may
 /// let through at all.
@@ -109,25 +107,17 @@ fn search_ends(search: &Search<'_, '_, '_>, used: &mut UsedRules) -> Result<(), 
     if used.has_all(search.rules) {
         return Ok(());
     }
-    search_addresses::<Brand>(search, used, Blank::new(1))?;
+    search_addresses(search, used)?;
     search_families(search, search.kinds.estate.families(), used)
 }
 
 // Looks for the rules of a side with all addresses as far ends.
-fn search_addresses<L: Ledger>(
-    search: &Search<'_, '_, '_>,
-    used: &mut UsedRules,
-    blank: Blank,
-) -> Result<(), NoMemory>
+fn search_addresses(search: &Search<'_, '_, '_>, used: &mut UsedRules) -> Result<(), NoMemory>
     requires search { IsSearch search.now }
-    requires name { blank.name ≡ L.name }
-    requires parts { blank.parts ≡ L.parts }
-    requires some { 0 < blank.parts }
     ensures { OnOk result (Searched search.now.side.now.lists search.now.side.now.direction
         (KnowsAll is_address_spot search.now.side.now with_addresses) used.old used.new) }
 {
-    let mut steps: Steps<L> = Steps::new(blank);
-    let layer = search.side.address_layer(search.kinds.alloc, &mut steps)?;
+    let layer = search.side.address_layer(search.kinds.alloc)?;
     used.note_layer(search.kinds.alloc, layer, search.rules)
 }
 
@@ -163,25 +153,21 @@ fn search_pods(
         if used.has_all(search.rules) {
             return Ok(());
         }
-        search_kind::<Brand>(search, kind, family, used, Blank::new(1))?;
+        search_kind(search, kind, family, used)?;
     }
     Ok(())
 }
 
 // Looks for the rules of a side with the pod of a kind as the far end, where it may tell of any.
-fn search_kind<L: Ledger>(
+fn search_kind(
     search: &Search<'_, '_, '_>,
     kind: usize,
     family: Family,
     used: &mut UsedRules,
-    blank: Blank,
 ) -> Result<(), NoMemory>
     requires search { IsSearch search.now }
     requires kind { kind < length search.now.kinds.pods.now }
     requires family { Contains (families_of search.now.side.now.lists.pods) family }
-    requires name { blank.name ≡ L.name }
-    requires parts { blank.parts ≡ L.parts }
-    requires some { 0 < blank.parts }
     ensures { OnOk result (Searched search.now.side.now.lists search.now.side.now.direction
         (KnowsFar search.now.side.now search.now.kinds.pods.now search.now.near family kind) used.old used.new) }
 {
@@ -189,10 +175,7 @@ fn search_kind<L: Ledger>(
         return Ok(());
     }
     let far = search.kinds.pods[kind].pod;
-    let mut steps: Steps<L> = Steps::new(blank);
-    let layer = search
-        .side
-        .pod_layer(search.kinds.alloc, far, family, &mut steps)?;
+    let layer = search.side.pod_layer(search.kinds.alloc, far, family)?;
     used.note_layer(search.kinds.alloc, layer, search.rules)
 }
 

@@ -11,19 +11,19 @@ use Rattle.np_unused.specs.Prelude.{KindPod, KnowsAll, KnowsFar, PodsAreUsed}
 use Rattle.np_rules.specs.Prelude.{with_pod}
 
 pub returns-then-not-may_tell : goal.returns-then-not-may_tell
-returns-then-not-may_tell g c =
+returns-then-not-may_tell c =
     let side = c.args.search.now.side.now in
     not_searched side.lists side.direction (KnowsFar side c.args.search.now.kinds.pods.now c.args.search.now.near c.args.family c.args.kind) c.args.used.now
     (λ far at asked. quiet_kind c.args.search.now c.requires.search c.args.used.now c.args.kind far at (sym (c.may_tell.ensures far at) ∙ c.if-not-may_tell.true) asked c.args.family)
 
 pub pod_layer-requires : goal.pod_layer-requires
-pod_layer-requires g c =
+pod_layer-requires c =
     let kinds = c.args.search.now.kinds.pods.now in
     (own_kind c.args.search.now.side.now.lists c.requires.search.lawful kinds c.requires.search.kinds c.args.kind (pod_of_kind kinds c.args.kind) (kind_at kinds c.args.kind c.requires.kind)).0
 
 pub returns : goal.returns
 unfolding PodsAreUsed
-returns g c =
+returns c =
     let side = c.args.search.now.side.now in
     let kinds = c.args.search.now.kinds.pods.now in
     let one = pod_of_kind kinds c.args.kind in

@@ -5,7 +5,3 @@ use Rattle.np_unused.specs.Prelude.{KnowsFar, Searched}
 -- the kinds so far
 abbrev pub invariant-loop-kind : goal.invariant-loop-kind
 invariant-loop-kind l = Searched l.search.side.now.lists l.search.side.now.direction (Below (KnowsFar l.search.side.now l.search.kinds.pods.now l.search.near l.family) l.kind) l.fn.used l.used
-
--- the ledger of the blank that was just made
-abbrev pub ghosts-search_kind : goal.ghosts-search_kind
-ghosts-search_kind a = record { name = a.blank.name; parts = a.blank.parts }
