@@ -1,5 +1,5 @@
 -- Packets that the verdict does not tell apart. For `kinds_give_the_deciders`, `kinds_give_the_rule_counts` and 2 more.
-use Rattle.std.proofs.Common.{◌≡◌, ℕ, ◌+◌, List, ◌++◌, length, ◌&&◌, Option, Some, None, map, filter, is_some, refl, ap, subst, inl, inr, ◌∙◌, if◌then◌else◌}
+use Rattle.std.proofs.Common.{◌≡◌, ℕ, List, ◌++◌, ◌&&◌, Option, Some, None, map, filter, is_some, refl, ap, subst, inl, inr, ◌∙◌, if◌then◌else◌}
 use Rattle.std.specs.List.{AllByRecursion, find, flat_map, list_any}
 use Rattle.std.proofs.lemmas.List.Elements.{recursion_from_All}
 use Rattle.np_labels.specs.Prelude.{AgreeOn}
@@ -15,7 +15,7 @@ use Rattle.np_kinds.proofs.KindRules.{SameContact}
 use Rattle.np_kinds.proofs.KindSides.{admin_places-alike, admin_places-same, base_places-alike, base_places-same, net_places-alike, net_places-same, net_selects-same}
 use Rattle.np_model.specs.declared.admin_policy.Action.{Action}
 use Rattle.np_model.specs.declared.admin_policy.Action.TheVariants.{Allow, Deny, Pass}
-use Rattle.np_rules.specs.Prelude.{Contact, ModelEnd, ModelPacket, PlacedAdminRule, PodEnd, action_decides, address, admin_decider, admin_decides, admin_places, admin_precedes, admin_rule_matches, admin_rule_name, admin_says, allows, base_decider, base_decides, base_places, base_says, contact_of, decider, end_allows, end_rule_count, is_isolated, isolates, isolating_names, least_by, lower_allows, lower_decider, net_decider, net_decides, net_places, net_policy_name, net_precedes, net_rules_of, net_selects, permits, placed_net_matches, pod, pod_end, rule_count, side_allows}
+use Rattle.np_rules.specs.Prelude.{Contact, ModelEnd, ModelPacket, PlacedAdminRule, PodEnd, action_decides, address, admin_decider, admin_decides, admin_places, admin_precedes, admin_rule_matches, admin_rule_name, admin_says, allows, base_decider, base_decides, base_places, base_says, contact_of, decider, end_allows, end_rule_count, is_isolated, isolates, isolating_names, least_by, lower_allows, lower_decider, net_decider, net_decides, net_places, net_policy_name, net_precedes, net_rules_of, net_selects, permits, placed_net_matches, pod, pod_end, side_allows}
 use Rattle.np_rules.specs.declared.decider.Decider.{Decider}
 use Rattle.np_rules.specs.declared.decider.RuleName.{RuleName}
 
@@ -36,6 +36,12 @@ OfPolicies-from P lists all =
 
 -- ---- sides
 
+-- the same rules speak of two pods
+pub record SamePlaces (lists : EstateLists) (direction : Direction) (p q : PodEnd) : Type 0 where
+  pub admin : admin_places lists.admin_policies direction p ≡ admin_places lists.admin_policies direction q
+  pub net : net_places lists.net_policies direction p ≡ net_places lists.net_policies direction q
+  pub base : base_places lists.baseline direction p ≡ base_places lists.baseline direction q
+
 -- what an admin rule hands down may be known pass by pass
 action_decides-same : (action : Action) (rule : RuleName) (lower lower' : Option RuleName → Decider) → ((pass : Option RuleName) → lower pass ≡ lower' pass) →
     action_decides action rule lower ≡ action_decides action rule lower'
@@ -53,15 +59,22 @@ module _ (lists : EstateLists) (direction : Direction) (p q : PodEnd) (one other
   cidrs : AllByRecursion (AgreeIn one.far other.far) (flat_map cidrs_of_admin_policy lists.admin_policies) × AllByRecursion (AgreeIn one.far other.far) (cidrs_of_baseline lists.baseline)
   cidrs = All-parts (AgreeIn one.far other.far) (flat_map cidrs_of_admin_policy lists.admin_policies) (cidrs_of_baseline lists.baseline) within
 
+  places : SamePlaces lists direction p q
+  places = record {
+    admin = admin_places-same p q one other pods same direction lists.admin_policies near.admin;
+    net = net_places-same p q one other pods same direction lists.net_policies (net_selects-same p q one other pods same lists.net_policies near.net);
+    base = base_places-same p q one other pods same direction lists.baseline near.base;
+  }
+
   admin-same : admin_decider lists.admin_policies direction p one ≡ admin_decider lists.admin_policies direction q other
   admin-same =
-      ap (λ places. least_by admin_precedes (filter (λ placed. admin_rule_matches placed.rule one) places)) (admin_places-same p q one other pods same direction lists.admin_policies near.admin)
+      ap (λ all. least_by admin_precedes (filter (λ placed. admin_rule_matches placed.rule one) all)) places.admin
       ∙ ap (least_by admin_precedes) (filter-same (λ placed. admin_rule_matches placed.rule one) (λ placed. admin_rule_matches placed.rule other) (admin_places lists.admin_policies direction q)
       (admin_places-alike p q one other pods same direction lists.admin_policies far.admin cidrs.0))
 
   base-same : base_decider lists.baseline direction p one ≡ base_decider lists.baseline direction q other
   base-same =
-      ap (find (λ placed. admin_rule_matches placed.rule one)) (base_places-same p q one other pods same direction lists.baseline near.base)
+      ap (find (λ placed. admin_rule_matches placed.rule one)) places.base
       ∙ find-same (λ placed. admin_rule_matches placed.rule one) (λ placed. admin_rule_matches placed.rule other) (base_places lists.baseline direction q)
       (base_places-alike p q one other pods same direction lists.baseline far.base cidrs.1)
 
@@ -74,7 +87,7 @@ module _ (lists : EstateLists) (direction : Direction) (p q : PodEnd) (one other
 
   permits-same : permits lists.net_policies direction p one ≡ permits lists.net_policies direction q other
   permits-same =
-      ap (list_any (placed_net_matches one)) (net_places-same p q one other pods same direction lists.net_policies (net_selects-same p q one other pods same lists.net_policies near.net))
+      ap (list_any (placed_net_matches one)) places.net
       ∙ list_any-same (placed_net_matches one) (placed_net_matches other) (net_places lists.net_policies direction q) (net_places-alike p q one other pods same direction lists.net_policies far.net)
 
   lower-same : lower_allows lists direction p one ≡ lower_allows lists direction q other
@@ -89,23 +102,11 @@ module _ (lists : EstateLists) (direction : Direction) (p q : PodEnd) (one other
       ap (λ decides. admin_says decides (lower_allows lists direction p one)) admin-same
       ∙ ap (admin_says (admin_decider lists.admin_policies direction q other)) lower-same
 
-  -- ---- how many rules speak of the pod
-
-  rule_count-same : rule_count lists direction p ≡ rule_count lists direction q
-  rule_count-same =
-      ap (λ places. length places + length (net_places lists.net_policies direction p) + length (base_places lists.baseline direction p))
-      (admin_places-same p q one other pods same direction lists.admin_policies near.admin)
-      ∙ ap (λ places. length (admin_places lists.admin_policies direction q) + length places + length (base_places lists.baseline direction p))
-      (net_places-same p q one other pods same direction lists.net_policies (net_selects-same p q one other pods same lists.net_policies near.net))
-      ∙ ap (λ places. length (admin_places lists.admin_policies direction q) + length (net_places lists.net_policies direction q) + length places)
-      (base_places-same p q one other pods same direction lists.baseline near.base)
-
   -- ---- what decides
 
   net-same : net_decider lists.net_policies direction p one ≡ net_decider lists.net_policies direction q other
   net-same =
-      ap (λ places. least_by net_precedes (filter (placed_net_matches one) places))
-      (net_places-same p q one other pods same direction lists.net_policies (net_selects-same p q one other pods same lists.net_policies near.net))
+      ap (λ all. least_by net_precedes (filter (placed_net_matches one) all)) places.net
       ∙ ap (least_by net_precedes) (filter-same (placed_net_matches one) (placed_net_matches other) (net_places lists.net_policies direction q)
       (net_places-alike p q one other pods same direction lists.net_policies far.net))
 
@@ -186,11 +187,15 @@ packet-same lists family spot a a' b b' first second =
     ap (λ allowed. allowed && end_allows lists Ingress b (contact_of Ingress one)) leaves
     ∙ ap (λ allowed. end_allows lists Egress a' (contact_of Egress other) && allowed) enters
 
+-- the same rules speak of pods of one kind
+pub kind-places : (lists : EstateLists) (direction : Direction) (p q : PodEnd) → SameKindEnd lists (pod p) (pod q) → SamePlaces lists direction p q
+kind-places lists direction p q near =
+    let with : PodEnd → Contact = λ x. record { far = pod x; destination = pod x; family = Four; spot = record { proto = Tcp; port = 1 } } in
+    places lists direction p q (with p) (with q) near.same (record { far = near.same; destination = near.same; family = refl; spot = refl }) near.keys near.keys near.cidrs
+
 -- as many rules speak of ends of one kind
 pub end_rule_count-same : (lists : EstateLists) (direction : Direction) (near near' : ModelEnd) → SameKindEnd lists near near' → end_rule_count lists direction near ≡ end_rule_count lists direction near'
-end_rule_count-same lists direction (pod p) (pod q) near =
-    let with : PodEnd → Contact = λ x. record { far = pod x; destination = pod x; family = Four; spot = record { proto = Tcp; port = 1 } } in
-    rule_count-same lists direction p q (with p) (with q) near.same (record { far = near.same; destination = near.same; family = refl; spot = refl }) near.keys near.keys near.cidrs
+end_rule_count-same lists direction (pod p) (pod q) near = let all = kind-places lists direction p q near in rw (all.admin, all.net, all.base) refl
 end_rule_count-same lists direction (address a) (address b) near = refl
 end_rule_count-same lists direction (pod p) (address b) near = absurd near.same
 end_rule_count-same lists direction (address a) (pod q) near = absurd near.same

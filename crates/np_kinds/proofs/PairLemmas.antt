@@ -33,7 +33,7 @@ pub pod_there : (lists : EstateLists) (place : ℕ) → place < length lists.pod
 pod_there lists place within = slice_get-some lists.pods place within
 
 -- the pods of a workload are of one kind
-one_kind-members : (lists : EstateLists) (p q : ℕ) → IsLawful lists → p < length lists.pods → q < length lists.pods → workload_number lists p ≡ workload_number lists q →
+pub one_kind-members : (lists : EstateLists) (p q : ℕ) → IsLawful lists → p < length lists.pods → q < length lists.pods → workload_number lists p ≡ workload_number lists q →
     AreOneKind lists (pod (pod_at lists p)) (pod (pod_at lists q))
 one_kind-members lists p q lawful p_in q_in same =
     let a = pod_there lists p p_in in
