@@ -5,4 +5,4 @@ use Rattle.np_rules.specs.Views.{end_view}
 
 -- what a spot stands for
 abbrev pub one_contact : OneEnd → PortSpot → Contact
-one_contact ends spot = record { far = end_view ends.far; destination = end_view ends.destination; family = ends.family; spot = spot }
+one_contact ends spot = record { far = end_view ends.far.now; destination = end_view ends.destination.now; family = ends.family; spot = spot }

@@ -13,8 +13,8 @@ use std::alloc::Global;
 /// One far end, with the end that a packet goes to and its family. The spots stand for protocols and ports.
 #[derive(Drop)]
 pub(crate) struct OneEnd<'a> {
-    pub far: EndView<'a>,
-    pub destination: EndView<'a>,
+    pub far: &'a EndView<'a>,
+    pub destination: &'a EndView<'a>,
     pub family: Family,
 }
 
@@ -24,16 +24,16 @@ impl FarEnds<ConnSet> for OneEnd<'_> {
     ghost contact_at = { one_contact };
 
     fn admin_set(&self, alloc: Global, rule: &AdminRule) -> Result<ConnSet, NoMemory> {
-        if admin_peers_match(rule.peers.items(), &self.far, self.family) {
-            entries_set(alloc, rule.ports.items(), &self.destination)
+        if admin_peers_match(rule.peers.items(), self.far, self.family) {
+            entries_set(alloc, rule.ports.items(), self.destination)
         } else {
             ConnSet::nothing(alloc)
         }
     }
 
     fn net_set(&self, alloc: Global, namespace: &str, rule: &NetRule) -> Result<ConnSet, NoMemory> {
-        if net_peers_match(namespace, rule.peers.items(), &self.far) {
-            entries_set(alloc, rule.ports.items(), &self.destination)
+        if net_peers_match(namespace, rule.peers.items(), self.far) {
+            entries_set(alloc, rule.ports.items(), self.destination)
         } else {
             ConnSet::nothing(alloc)
         }

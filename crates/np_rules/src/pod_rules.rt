@@ -17,15 +17,15 @@ use crate::base_tier::base_rules_for;
 use crate::every_address::{AddrConns, EveryAddress};
 use crate::far_ends::FarEnds;
 use crate::layer_parts::{admin_parts, base_parts, net_sets};
-use crate::near_ends::{between_pods, view_at, with_address, with_stranger};
+use crate::near_ends::{between, view_at};
 use crate::policy_rules::{
     PolicyRules, count_rules, isolating_policies, rules_of, selecting_policies,
 };
 use crate::rule_ids::{LayerRules, places_of, rule_ids};
 use crate::side_rules::SideRules;
 use crate::stranger::Stranger;
-use crate::views::EndView;
-use np_addr::{Address, Family};
+use crate::views::{EndView, view_of_stranger};
+use np_addr::{Address, Family, family_of};
 use np_base::{Cells, NoMemory, Steps};
 use np_conns::ConnSet;
 use np_model::{AdminRule, Direction, Estate, NetRule};
@@ -156,7 +156,9 @@ impl<'a> PodRules<'a> {
         ensures layer { IfOk result (IsSideLayer has_spot is_spot self.now (with_pod peer family)) }
         ensures verdict { IfOk result (SaysVerdicts has_spot is_spot self.now (with_pod peer family)) }
     {
-        let ends = between_pods(self.estate, self.direction, self.pod, peer, family);
+        let near = EndView::Pod(view_at(self.estate, self.pod));
+        let far = EndView::Pod(view_at(self.estate, peer));
+        let ends = between(self.direction, &near, &far, family);
         self.layer(alloc, &ends)
     }
 
@@ -165,7 +167,10 @@ impl<'a> PodRules<'a> {
         ensures layer { IfOk result (IsSideLayer has_spot is_spot self.now (with_point address)) }
         ensures verdict { IfOk result (SaysVerdicts has_spot is_spot self.now (with_point address)) }
     {
-        let ends = with_address(self.estate, self.direction, self.pod, &address);
+        let point = &address;
+        let near = EndView::Pod(view_at(self.estate, self.pod));
+        let far = EndView::At(*point);
+        let ends = between(self.direction, &near, &far, family_of(*point));
         self.layer(alloc, &ends)
     }
 
@@ -179,7 +184,9 @@ impl<'a> PodRules<'a> {
         ensures layer { IfOk result (IsSideLayer has_spot is_spot self.now (with_stranger stranger.now)) }
         ensures verdict { IfOk result (SaysVerdicts has_spot is_spot self.now (with_stranger stranger.now)) }
     {
-        let ends = with_stranger(self.estate, self.direction, self.pod, stranger);
+        let near = EndView::Pod(view_at(self.estate, self.pod));
+        let far = EndView::Pod(view_of_stranger(stranger));
+        let ends = between(self.direction, &near, &far, Family::Four);
         self.layer(alloc, &ends)
     }
 

@@ -10,11 +10,12 @@ ghost use Rattle.np_rules.specs.Views.{end_view};
 
 use crate::every_address::EveryAddress;
 use crate::layer_parts::{admin_parts, base_parts};
-use crate::near_ends::{view_at, with_stranger};
+use crate::near_ends::{between, view_at};
 use crate::peers::net_peers_match;
 use crate::pod_rules::PodRules;
 use crate::stranger::Stranger;
 use crate::views::{EndView, view_of_stranger};
+use np_addr::Family;
 use np_base::{Cells, NoMemory, Seq};
 use np_conns::ConnSet;
 use np_model::{AdminRule, Direction, Estate, NetRule};
@@ -135,7 +136,9 @@ impl<'a> StrangerRules<'a> {
         requires { ArePermitted self.now stranger.now net }
         ensures verdict { IfOk result (SaysVerdicts has_spot is_spot self.now (with_stranger stranger.now)) }
     {
-        let ends = with_stranger(self.estate, self.direction, self.pod, stranger);
+        let near = EndView::Pod(view_at(self.estate, self.pod));
+        let far = EndView::Pod(view_of_stranger(stranger));
+        let ends = between(self.direction, &near, &far, Family::Four);
         let admin = admin_parts(alloc, &self.admin, &ends)?;
         let base = base_parts(alloc, self.base, &ends)?;
         let mut sets = Seq::new(alloc);

@@ -6,6 +6,7 @@ ghost use Rattle.np_rules.specs.model.Sides as spec;
 
 use crate::admin_tier::admin_action;
 use crate::base_tier::base_action;
+use crate::near_ends::view_at;
 use crate::net_tier::{is_isolated, permits};
 use crate::packet::{End, Packet};
 use crate::views::{ContactView, EndView, PodView, view_of_pod};
@@ -20,32 +21,19 @@ pub fn allows(estate: &Estate, packet: &Packet) -> bool
     requires destination { IsEndOf estate.now packet.now.destination }
     ensures { result ≡ allows estate.now (packet_of estate.now packet.now) }
 {
-    let source = view_of_end(estate, packet.source);
-    let sent = contact_of(estate, packet, packet.destination);
-    let received = contact_of(estate, packet, packet.source);
-    let leaves = end_allows(estate, Direction::Egress, &source, &sent);
-    let arrives = end_allows(estate, Direction::Ingress, &received.destination, &received);
-    leaves && arrives
-}
-
-// What a side of a packet looks at, whose far end is this one.
-fn contact_of<'a>(estate: &'a Estate, packet: &Packet, far: End) -> ContactView<'a>
-    requires far { IsEndOf estate.now far }
-    requires destination { IsEndOf estate.now packet.now.destination }
-    ensures far { end_view result.far ≡ end_of estate.now far }
-    ensures destination { end_view result.destination ≡ end_of estate.now packet.now.destination }
-    ensures family { result.family ≡ packet.now.family }
-    ensures spot { result.spot ≡ record { proto = packet.now.proto; port = packet.now.port } }
-{
-    ContactView {
-        far: view_of_end(estate, far),
-        destination: view_of_end(estate, packet.destination),
-        family: packet.family,
-        spot: PortSpot {
-            proto: packet.proto,
-            port: packet.port,
-        },
-    }
+    end_allows(
+        estate,
+        Direction::Egress,
+        packet.source,
+        packet.destination,
+        packet,
+    ) && end_allows(
+        estate,
+        Direction::Ingress,
+        packet.destination,
+        packet.source,
+        packet,
+    )
 }
 
 // The end of a packet.
@@ -59,18 +47,33 @@ fn view_of_end(estate: &Estate, end: End) -> EndView<'_>
     }
 }
 
-// Whether the side of an end allows what it looks at. An address has no side of its own.
-fn end_allows(
-    estate: &Estate,
-    direction: Direction,
-    end: &EndView<'_>,
-    contact: &ContactView<'_>,
-) -> bool
-    ensures { result ≡ end_allows estate.now direction (end_view end.now) (contact_view contact.now) }
+// Whether the side of an end of a packet allows it, with the other end as its far end. An address has no side of its own.
+fn end_allows(estate: &Estate, direction: Direction, near: End, far: End, packet: &Packet) -> bool
+    requires near { IsEndOf estate.now near }
+    requires far { IsEndOf estate.now far }
+    requires destination { IsEndOf estate.now packet.now.destination }
+    ensures { result ≡ end_allows estate.now direction (end_of estate.now near) (record {
+      far = end_of estate.now far;
+      destination = end_of estate.now packet.now.destination;
+      family = packet.now.family;
+      spot = record { proto = packet.now.proto; port = packet.now.port };
+    }) }
 {
-    match end {
-        EndView::Pod(pod) => side_allows(estate, direction, pod, contact),
-        EndView::At(_) => true,
+    match near {
+        End::Pod(place) => {
+            let pod = view_at(estate, place);
+            let contact = ContactView {
+                far: view_of_end(estate, far),
+                destination: view_of_end(estate, packet.destination),
+                family: packet.family,
+                spot: PortSpot {
+                    proto: packet.proto,
+                    port: packet.port,
+                },
+            };
+            side_allows(estate, direction, &pod, &contact)
+        }
+        End::At(_) => true,
     }
 }
 

@@ -6,12 +6,10 @@ use Rattle.np_rules.proofs.pod_rules.PodRules.pod_layer.Goals as goal
 
 pub returns-clause-layer : goal.returns-clause-layer
 returns-clause-layer c = subst (λ (at : PortSpot → Contact). IfOk c.layer.result (IsSideLayer has_spot is_spot c.args.self.now (λ _. at)))
-    (same_contacts c.between_pods-ends.result c.self.inside.direction (pod (pod_at c.self.inside.estate.now c.self.inside.pod))
-    (pod (pod_at c.self.inside.estate.now c.args.peer)) c.args.family c.between_pods-ends.ensures.far c.between_pods-ends.ensures.destination c.between_pods-ends.ensures.family ∙ ap
-    (with_pod c.args.peer c.args.family) c.self.view_is) c.layer.ensures.layer
+    (same_contacts _ c.self.inside.direction _ (pod (pod_at c.self.inside.estate.now c.self.inside.pod)) _ (pod (pod_at c.self.inside.estate.now c.args.peer)) c.args.family
+    c.between-ends.ensures (ap pod c.view_at.ensures) (ap pod c.view_at-2.ensures) ∙ ap (with_pod c.args.peer c.args.family) c.self.view_is) c.layer.ensures.layer
 
 pub returns-clause-verdict : goal.returns-clause-verdict
 returns-clause-verdict c = subst (λ (at : PortSpot → Contact). IfOk c.layer.result (SaysVerdicts has_spot is_spot c.args.self.now (λ _. at)))
-    (same_contacts c.between_pods-ends.result c.self.inside.direction (pod (pod_at c.self.inside.estate.now c.self.inside.pod))
-    (pod (pod_at c.self.inside.estate.now c.args.peer)) c.args.family c.between_pods-ends.ensures.far c.between_pods-ends.ensures.destination c.between_pods-ends.ensures.family ∙ ap
-    (with_pod c.args.peer c.args.family) c.self.view_is) c.layer.ensures.verdict
+    (same_contacts _ c.self.inside.direction _ (pod (pod_at c.self.inside.estate.now c.self.inside.pod)) _ (pod (pod_at c.self.inside.estate.now c.args.peer)) c.args.family
+    c.between-ends.ensures (ap pod c.view_at.ensures) (ap pod c.view_at-2.ensures) ∙ ap (with_pod c.args.peer c.args.family) c.self.view_is) c.layer.ensures.verdict

@@ -1,17 +1,15 @@
 use Rattle.std.proofs.Common.{IfOk, ap, ◌∙◌, subst}
-use Rattle.np_rules.specs.Prelude.{Contact, Four, IsSideLayer, PortSpot, SaysVerdicts, pod, pod_at, stranger_end, with_stranger}
 use Rattle.np_conns.specs.Prelude.{has_spot, is_spot}
+use Rattle.np_rules.specs.Prelude.{Contact, Four, IsSideLayer, PortSpot, SaysVerdicts, pod, pod_at, stranger_end, with_stranger}
 use Rattle.np_rules.proofs.OneEndLemmas.{same_contacts}
 use Rattle.np_rules.proofs.pod_rules.PodRules.stranger_layer.Goals as goal
 
 pub returns-clause-layer : goal.returns-clause-layer
 returns-clause-layer c = subst (λ (at : PortSpot → Contact). IfOk c.layer.result (IsSideLayer has_spot is_spot c.args.self.now (λ _. at)))
-    (same_contacts c.with_stranger-ends.result c.self.inside.direction (pod (pod_at c.self.inside.estate.now c.self.inside.pod))
-    (pod (stranger_end c.args.stranger.now)) Four c.with_stranger-ends.ensures.far c.with_stranger-ends.ensures.destination c.with_stranger-ends.ensures.family ∙ ap
-    (with_stranger c.args.stranger.now) c.self.view_is) c.layer.ensures.layer
+    (same_contacts _ c.self.inside.direction _ (pod (pod_at c.self.inside.estate.now c.self.inside.pod)) _ (pod (stranger_end c.args.stranger.now)) Four
+    c.between-ends.ensures (ap pod c.view_at.ensures) (ap pod c.view_of_stranger.ensures) ∙ ap (with_stranger c.args.stranger.now) c.self.view_is) c.layer.ensures.layer
 
 pub returns-clause-verdict : goal.returns-clause-verdict
 returns-clause-verdict c = subst (λ (at : PortSpot → Contact). IfOk c.layer.result (SaysVerdicts has_spot is_spot c.args.self.now (λ _. at)))
-    (same_contacts c.with_stranger-ends.result c.self.inside.direction (pod (pod_at c.self.inside.estate.now c.self.inside.pod))
-    (pod (stranger_end c.args.stranger.now)) Four c.with_stranger-ends.ensures.far c.with_stranger-ends.ensures.destination c.with_stranger-ends.ensures.family ∙ ap
-    (with_stranger c.args.stranger.now) c.self.view_is) c.layer.ensures.verdict
+    (same_contacts _ c.self.inside.direction _ (pod (pod_at c.self.inside.estate.now c.self.inside.pod)) _ (pod (stranger_end c.args.stranger.now)) Four
+    c.between-ends.ensures (ap pod c.view_at.ensures) (ap pod c.view_of_stranger.ensures) ∙ ap (with_stranger c.args.stranger.now) c.self.view_is) c.layer.ensures.verdict

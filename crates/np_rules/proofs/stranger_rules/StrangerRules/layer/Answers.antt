@@ -5,15 +5,16 @@ use Rattle.np_rules.proofs.OneEndLemmas.{same_contacts}
 use Rattle.np_rules.proofs.StrangerLemmas.{says_of_stranger}
 use Rattle.np_rules.proofs.stranger_rules.StrangerRules.layer.Goals as goal
 
-pub returns-clause-verdict : goal.returns-clause-verdict
-returns-clause-verdict c =
+pub returns : goal.returns
+returns c =
     let inside = c.self.inside in
     let side = side_of inside.estate.now inside.pod inside.direction in
     let made : Layer Conns = record { admin = c.in_ok-admin.admin; isolated = inside.isolated; net = c.push.new.self; base = c.in_ok-base.base } in
-    subst (λ (s : PodSide). SaysVerdicts has_spot is_spot s (with_stranger c.args.stranger.now) made) c.self.view_is
-    (says_of_stranger side c.args.stranger.now (map (λ rule. rule.now) inside.admin.items) inside.isolated (map rule_of inside.net.items) inside.base.now
-    (one_contact c.with_stranger-ends.result) c.args.net made
-    (same_contacts c.with_stranger-ends.result inside.direction (pod (near_pod side)) (pod (stranger_end c.args.stranger.now)) Four c.with_stranger-ends.ensures.far
-    c.with_stranger-ends.ensures.destination c.with_stranger-ends.ensures.family)
-    c.self.invariant.0 (subst (λ (s : PodSide). ArePermitted s c.args.stranger.now c.args.net) (sym c.self.view_is) c.requires) (rw c.deref.ensures.value at c.in_ok-admin.ensures) refl
-    (c.in_ok-push.ensures.ok ∙ ap (λ (sets : List Conns). sets ++ c.args.net ∷ []) c.new-sets.ensures) c.in_ok-base.ensures)
+    record {
+      verdict = subst (λ (s : PodSide). SaysVerdicts has_spot is_spot s (with_stranger c.args.stranger.now) made) c.self.view_is
+          (says_of_stranger side c.args.stranger.now (map (λ rule. rule.now) inside.admin.items) inside.isolated (map rule_of inside.net.items) inside.base.now
+          (one_contact c.between-ends.result) c.args.net made
+          (same_contacts _ inside.direction _ (pod (near_pod side)) _ (pod (stranger_end c.args.stranger.now)) Four c.between-ends.ensures (ap pod c.view_at.ensures) (ap pod c.view_of_stranger.ensures))
+          c.self.invariant.0 (subst (λ (s : PodSide). ArePermitted s c.args.stranger.now c.args.net) (sym c.self.view_is) c.requires) (rw c.deref.ensures.value at c.in_ok-admin.ensures) refl
+          (c.in_ok-push.ensures.ok ∙ ap (λ (sets : List Conns). sets ++ c.args.net ∷ []) c.new-sets.ensures) c.in_ok-base.ensures);
+    }
