@@ -12,9 +12,10 @@ use Rattle.np_command_list.proofs.OneListLemmas.{AreToldAlike, any-from, any-to,
 use Rattle.np_command_list.proofs.RowPartLemmas.{Agree, agree-one, families-cases}
 use Rattle.np_report.specs.Prelude.{keeps}
 use Rattle.np_routes.specs.Prelude.{ingress_key, is_from_controller, is_ingress_controller, rows_from_controller}
-use Rattle.np_routes.proofs.ClusterLemmas.{controller-end, workload-end}
+use Rattle.np_routes.proofs.ClusterLemmas.{controller-end}
 use Rattle.np_table.specs.Prelude.{allows_in, is_between, is_workload, pair_key, rows_between, says, speaks_of}
 use Rattle.np_kinds.specs.Prelude.{between_pods}
+use Rattle.np_table.proofs.RowLemmas.{is_workload-end}
 
 -- ---- small facts
 
@@ -109,7 +110,7 @@ module _ (lists : EstateLists) (sender : Option ℕ) (query : Query) where
     is_between-key : (row : Row) → is_between source destination row ≡ true → row.key ≡ pair_key source destination
     is_between-key row is =
         let ends = and_parts (is_workload source row.key.source) (is_workload destination row.key.destination) is in
-        key-from row.key (Work source) (Work destination) (workload-end source row.key.source ends.0) (workload-end destination row.key.destination ends.1)
+        key-from row.key (Work source) (Work destination) (is_workload-end source row.key.source ends.0) (is_workload-end destination row.key.destination ends.1)
 
     -- what one of them says is what they say
     pair-says : (rows : List Row) → Says rows → (row : Row) → Contains rows row → row.key ≡ pair_key source destination → (family : Family) → speaks_of row.family family ≡ true → (spot : PortSpot) →
@@ -161,7 +162,7 @@ module _ (lists : EstateLists) (sender : Option ℕ) (query : Query) where
     is_from_controller-key : (row : Row) → is_from_controller workload row ≡ true → row.key ≡ ingress_key workload
     is_from_controller-key row is =
         let ends = and_parts (is_ingress_controller row.key.source) (is_workload workload row.key.destination) is in
-        key-from row.key Controller (Work workload) (controller-end row.key.source ends.0) (workload-end workload row.key.destination ends.1)
+        key-from row.key Controller (Work workload) (controller-end row.key.source ends.0) (is_workload-end workload row.key.destination ends.1)
 
     ingress-unmarked : (rows : List Row) → Says rows → (row : Row) → Contains rows row → row.key ≡ ingress_key workload → row.family ≡ None
     ingress-unmarked rows say row has key = let is : IsIngressRow lists workload row = row-of rows say row (ingress_key workload) has key in is.unmarked
