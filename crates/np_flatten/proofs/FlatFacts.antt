@@ -1,7 +1,7 @@
 -- What holds of an estate without a fault. For `groups_give_the_sets`.
 use Rattle.std.proofs.Common.{◌≡◌, ◌≢◌, ◌⊎◌, ℕ, ◌<◌, List, [], ◌∷◌, Bool, true, false, not, ◌&&◌, ◌||◌, ◌==◌, Contains, Option, Some, None, map, refl, sym, ap, subst, ◌∙◌, inl, inr, arith}
 use Rattle.std.specs.List.{AllByRecursion, find, list_any}
-use Rattle.std.proofs.lemmas.Bool.{and_from, cases_Bool, cases_eq, cases_order, eqb-true, eq-eqb, lt-ltb, true≢false}
+use Rattle.std.proofs.lemmas.Bool.{and_from, cases_Bool, cases_eq, cases_order, eqb-true, eq-eqb, lt-ltb, true≢false, not-false}
 use Rattle.std.proofs.lemmas.List.Elements.{All-contains, All-from_recursion, recursion_from_All}
 use Rattle.np_flatten.specs.Prelude.{EstateLists, Family, Four, Six, are_together, differ, fault_by, first_family, first_of_group, first_pair, flat_fault, group_of, is_defined, is_split, is_unlike, receiver_in, set_from, set_in, set_of, two_differ}
 use Rattle.np_classes.proofs.Lists.{All-places, any_place}
@@ -69,12 +69,8 @@ pub same_sets : (sets : Family → Conns) (families : List Family) → ((family 
 same_sets sets families (inl one) none = subst (λ (fs : List Family). AllByRecursion (λ family. sets family ≡ sets (first_family fs)) fs) (sym one.1) (refl, tt)
 same_sets sets families (inr both) none =
     let two : two_differ (sets Four ∷ sets Six ∷ []) ≡ false = subst (λ (fs : List Family). two_differ (map sets fs) ≡ false) both none in
-    let same : are_same_conns (sets Four) (sets Six) ≡ true = by (are_same_conns (sets Four) (sets Six)) (sym (two_differ-two (sets Four) (sets Six)) ∙ two) in
+    let same : are_same_conns (sets Four) (sets Six) ≡ true = not-false (are_same_conns (sets Four) (sets Six)) (sym (two_differ-two (sets Four) (sets Six)) ∙ two) in
     subst (λ (fs : List Family). AllByRecursion (λ family. sets family ≡ sets (first_family fs)) fs) (sym both) (refl, (sym ((are_same_conns-Decides (sets Four) (sets Six)).0 same), tt))
-  where
-    by : (b : Bool) → not b ≡ false → b ≡ true
-    by true is = refl
-    by false is = let never : true ≡ false = is in absurd (cc)
 
 -- in each family of the list the same passes
 pub family-set : (lists : EstateLists) → flat_fault lists ≡ None → (x y : ℕ) (family : Family) → x < number_of_workloads lists → y < number_of_workloads lists → is_defined lists x y ≡ true →
