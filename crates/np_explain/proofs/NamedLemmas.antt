@@ -16,11 +16,11 @@ use Rattle.np_explain.proofs.OneListLemmas.{among_all}
 use Rattle.np_explain.proofs.PlaceLemmas.{all_flat, all_made}
 use Rattle.np_explain.proofs.RuleLemmas.{if_any}
 use Rattle.np_explain.proofs.TextLemmas.{decider_text-one}
-use Rattle.np_model.specs.declared.network_policy.NetRule.{NetRule}
 use Rattle.np_rules.proofs.DeciderLemmas.{least_is_among}
 use Rattle.np_rules.proofs.PlacesLemmas.{length-numbered}
 use Rattle.np_rules.specs.Prelude.{Contact, ModelEnd, PlacedAdminRule, PlacedBaseRule, PlacedNetRule, PodEnd, action_decides, address, admin_decider, admin_decides, admin_places, admin_precedes, admin_rule_matches, admin_rule_name, admin_rules_of, base_decider, base_decides, base_places, base_rule_name, base_rules_of, contact_of, decider, end_of, end_rule_count, is_isolated, isolates, isolating_names, least_by, lower_decider, net_decider, net_decides, net_places, net_policy_name, net_precedes, net_rule_name, net_rules_of, net_selects, placed_net_matches, pod, rule_count, subject_selects}
 use Rattle.np_rules.proofs.PolicyRulesLemmas.{placed_admin}
+use Rattle.np_rules.proofs.LayerLemmas.{placed_in}
 
 -- ---- names
 
@@ -67,7 +67,7 @@ All-of test (x ∷ xs) all =
 of_least : {X : Type 0} (P : X → Type 0) (precedes : X → X → Bool) (xs : List X) → All P xs → (x : X) → least_by precedes xs ≡ Some x → P x
 of_least P precedes xs all x is = among_all P xs all x (least_is_among precedes xs x is)
 
-of_found : {X : Type 0} (P : X → Type 0) (test : X → Bool) (xs : List X) → All P xs → (x : X) → find test xs ≡ Some x → P x
+pub of_found : {X : Type 0} (P : X → Type 0) (test : X → Bool) (xs : List X) → All P xs → (x : X) → find test xs ≡ Some x → P x
 of_found P test [] all x is = cc
 of_found {X} P test (y ∷ ys) all x is = by (test y) (of_found P test ys (All-tail P y ys all) x) is
   where
@@ -133,9 +133,6 @@ module _ {A R X : Type 0} (test chosen : A → Bool) (rules : A → List R) (mak
       let below = flat-below place_of rules_of (λ a. chosen-below place_of (make a) (placed a) (chosen a) (rules a)) owners in
       rule-is (name_of _) (place_of _) (length (flat_map rules_of owners)) (names-are named owners well k d within) (below k d within) few
 
-abbrev net_made : NetPolicy → ℕ × NetRule → PlacedNetRule
-net_made policy numbered = record { policy = policy; place = numbered.0; rule = numbered.1 }
-
 module _ (direction : Direction) (p : PodEnd) where
   admin_rules-are : (policies : List AdminPolicy) → list_all is_well_admin_policy policies ≡ true → length (admin_places policies direction p) < 2 ^ 64
       → All (λ placed. is_rule_name (admin_rule_name placed) ≡ true) (admin_places policies direction p)
@@ -146,7 +143,7 @@ module _ (direction : Direction) (p : PodEnd) where
   net_rules-are : (policies : List NetPolicy) → list_all is_well_net_policy policies ≡ true → length (net_places policies direction p) < 2 ^ 64
       → All (λ placed. is_rule_name (net_rule_name placed) ≡ true) (net_places policies direction p)
   net_rules-are policies well few =
-      rules-are is_well_net_policy (λ policy. net_selects policy p) (λ policy. unwrap_or (net_rules_of direction policy) []) net_made (λ placed. net_policy_name placed.policy) (λ placed. placed.place)
+      rules-are is_well_net_policy (λ policy. net_selects policy p) (λ policy. unwrap_or (net_rules_of direction policy) []) placed_in (λ placed. net_policy_name placed.policy) (λ placed. placed.place)
       (λ policy fit numbered. net_policy-is policy fit) (λ policy numbered. refl) policies well few
 
   base_rules-are : (baseline : Option BasePolicy) → length (base_places baseline direction p) < 2 ^ 64 → All (λ placed. is_rule_name (base_rule_name placed) ≡ true) (base_places baseline direction p)
