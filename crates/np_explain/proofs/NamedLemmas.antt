@@ -1,5 +1,5 @@
 -- What decides at an end is well named, where the policies are well formed.
--- For `deciders_of_read_policies_are_well_named` and `parts_have_texts_of_their_own`.
+-- For `deciders_of_read_policies_are_well_named`, `parts_have_texts_of_their_own` and crates above.
 use Rattle.std.proofs.Common.{◌≡◌, ◌≢◌, ℕ, ◌+◌, ◌<◌, ◌≤◌, ◌^◌, List, [], ◌∷◌, ◌++◌, length, map, filter, find, Bool, true, false, not, ◌||◌, ◌==◌, codes, Option, Some, None, All, AllPairs, unwrap_or, refl, sym, ◌∙◌, subst, arith, if◌then◌else◌}
 use Rattle.std.specs.List.{enumerate_from, flat_map, list_all}
 use Rattle.std.specs.Option.{option_map_or}
@@ -16,11 +16,11 @@ use Rattle.np_explain.proofs.OneListLemmas.{among_all}
 use Rattle.np_explain.proofs.PlaceLemmas.{all_flat, all_made}
 use Rattle.np_explain.proofs.RuleLemmas.{if_any}
 use Rattle.np_explain.proofs.TextLemmas.{decider_text-one}
+use Rattle.np_model.specs.declared.network_policy.NetRule.{NetRule}
 use Rattle.np_rules.proofs.DeciderLemmas.{least_is_among}
 use Rattle.np_rules.proofs.PlacesLemmas.{length-numbered}
 use Rattle.np_rules.specs.Prelude.{Contact, ModelEnd, PlacedAdminRule, PlacedBaseRule, PlacedNetRule, PodEnd, action_decides, address, admin_decider, admin_decides, admin_places, admin_precedes, admin_rule_matches, admin_rule_name, admin_rules_of, base_decider, base_decides, base_places, base_rule_name, base_rules_of, contact_of, decider, end_of, end_rule_count, is_isolated, isolates, isolating_names, least_by, lower_decider, net_decider, net_decides, net_places, net_policy_name, net_precedes, net_rule_name, net_rules_of, net_selects, placed_net_matches, pod, rule_count, subject_selects}
 use Rattle.np_rules.proofs.PolicyRulesLemmas.{placed_admin}
-use Rattle.np_rules.proofs.LayerLemmas.{placed_in}
 
 -- ---- names
 
@@ -133,6 +133,9 @@ module _ {A R X : Type 0} (test chosen : A → Bool) (rules : A → List R) (mak
       let below = flat-below place_of rules_of (λ a. chosen-below place_of (make a) (placed a) (chosen a) (rules a)) owners in
       rule-is (name_of _) (place_of _) (length (flat_map rules_of owners)) (names-are named owners well k d within) (below k d within) few
 
+abbrev pub net_made : NetPolicy → ℕ × NetRule → PlacedNetRule
+net_made policy numbered = record { policy = policy; place = numbered.0; rule = numbered.1 }
+
 module _ (direction : Direction) (p : PodEnd) where
   admin_rules-are : (policies : List AdminPolicy) → list_all is_well_admin_policy policies ≡ true → length (admin_places policies direction p) < 2 ^ 64
       → All (λ placed. is_rule_name (admin_rule_name placed) ≡ true) (admin_places policies direction p)
@@ -143,7 +146,7 @@ module _ (direction : Direction) (p : PodEnd) where
   net_rules-are : (policies : List NetPolicy) → list_all is_well_net_policy policies ≡ true → length (net_places policies direction p) < 2 ^ 64
       → All (λ placed. is_rule_name (net_rule_name placed) ≡ true) (net_places policies direction p)
   net_rules-are policies well few =
-      rules-are is_well_net_policy (λ policy. net_selects policy p) (λ policy. unwrap_or (net_rules_of direction policy) []) placed_in (λ placed. net_policy_name placed.policy) (λ placed. placed.place)
+      rules-are is_well_net_policy (λ policy. net_selects policy p) (λ policy. unwrap_or (net_rules_of direction policy) []) net_made (λ placed. net_policy_name placed.policy) (λ placed. placed.place)
       (λ policy fit numbered. net_policy-is policy fit) (λ policy numbered. refl) policies well few
 
   base_rules-are : (baseline : Option BasePolicy) → length (base_places baseline direction p) < 2 ^ 64 → All (λ placed. is_rule_name (base_rule_name placed) ≡ true) (base_places baseline direction p)

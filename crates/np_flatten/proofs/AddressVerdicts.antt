@@ -93,6 +93,13 @@ abbrev pub IsWellSpan : AddressSpan → Type 0
 IsWellSpan (span.Four range) = (range.lo ≤ range.hi) × (range.hi ≤ 2 ^ 32 - 1)
 IsWellSpan (span.Six range) = (range.lo ≤ range.hi) × (range.hi ≤ 2 ^ 128 - 1)
 
+-- what follows a stretch does not end before it
+ends : (passes : ℕ → PortSpot → Bool) (from to last hi : ℕ) (before : Option Conns) (stretches : List Stretch) → AreRight passes from to before stretches → from ≡ hi + 1 → to ≡ last + 1 →
+    hi ≤ last
+ends passes from to last hi before [] are is is' = omega (arith, are, is, is')
+ends passes from to last hi before (stretch ∷ stretches) are is is' = omega
+    (arith, are.0.start, are.0.filled, is, ends passes (stretch.hi + 1) to last stretch.hi (Some stretch.conns) stretches are.1 refl is')
+
 wells-four : (passes : ℕ → PortSpot → Bool) (from : ℕ) (before : Option Conns) (stretches : List Stretch) → AreRight passes from (2 ^ 32 - 1 + 1) before stretches →
     AllByRecursion (λ (row : AddressRow). IsWellSpan row.span) (map (address_row four_of) stretches)
 wells-four passes from before [] are = tt
@@ -101,12 +108,6 @@ wells-four passes from before (stretch ∷ stretches) are = (
   wells-four passes (stretch.hi + 1)
       (Some stretch.conns) stretches are.1,
 )
-  where
-    ends : (passes : ℕ → PortSpot → Bool) (from to last hi : ℕ) (before : Option Conns) (stretches : List Stretch) → AreRight passes from to before stretches → from ≡ hi + 1 → to ≡ last + 1 →
-        hi ≤ last
-    ends passes from to last hi before [] are is is' = omega (arith, are, is, is')
-    ends passes from to last hi before (stretch ∷ stretches) are is is' = omega
-        (arith, are.0.start, are.0.filled, is, ends passes (stretch.hi + 1) to last stretch.hi (Some stretch.conns) stretches are.1 refl is')
 
 wells-six : (passes : ℕ → PortSpot → Bool) (from : ℕ) (before : Option Conns) (stretches : List Stretch) → AreRight passes from (2 ^ 128 - 1 + 1) before stretches →
     AllByRecursion (λ (row : AddressRow). IsWellSpan row.span) (map (address_row six_of) stretches)
@@ -116,12 +117,6 @@ wells-six passes from before (stretch ∷ stretches) are = (
   wells-six passes (stretch.hi + 1)
       (Some stretch.conns) stretches are.1,
 )
-  where
-    ends : (passes : ℕ → PortSpot → Bool) (from to last hi : ℕ) (before : Option Conns) (stretches : List Stretch) → AreRight passes from to before stretches → from ≡ hi + 1 → to ≡ last + 1 →
-        hi ≤ last
-    ends passes from to last hi before [] are is is' = omega (arith, are, is, is')
-    ends passes from to last hi before (stretch ∷ stretches) are is is' = omega
-        (arith, are.0.start, are.0.filled, is, ends passes (stretch.hi + 1) to last stretch.hi (Some stretch.conns) stretches are.1 refl is')
 
 pub rows-well : (passes : Family → ℕ → PortSpot → Bool) → AllByRecursion (λ (row : AddressRow). IsWellSpan row.span) (rows_of_addresses passes)
 rows-well passes =

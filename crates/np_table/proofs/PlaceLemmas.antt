@@ -1,4 +1,4 @@
--- The rows from place to place are all rows of a table. For `Rows::new`, `Rows::next` and 2 more.
+-- The rows from place to place are all rows of a table. For `Rows::new`, `Rows::next` and 3 more.
 use Rattle.std.proofs.Common.{◌≡◌, ℕ, zero, suc, ◌+◌, ◌-◌, ◌*◌, ◌/◌, ◌%◌, ◌<◌, ◌≤◌, List, [], ◌∷◌, ◌++◌, length, flat_map, reverse, Bool, true, false, nat_lt, refl, sym, ap, subst, ◌∙◌, arith, append_assoc, append-nil, if◌then◌else◌}
 use Rattle.std.specs.List.{range_with_len}
 use Rattle.std.proofs.lemmas.Bool.{lt-ltb, le-ltb}

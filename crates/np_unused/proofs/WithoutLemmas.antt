@@ -9,8 +9,8 @@ use Rattle.np_model.specs.Prelude.{HasAscendingPriorities, ascends}
 use Rattle.np_unused.specs.Prelude.{Admin, AdminPolicy, AdminRule, Base, BasePolicy, Direction, Egress, Ingress, Net, NetPolicy, NetRule, RuleRef, admin_count, admin_without, base_count, base_without, goes, net_count, net_without, without_places}
 use Rattle.np_rules.proofs.PlacesLemmas.{map-numbered}
 use Rattle.np_rules.specs.Prelude.{PlacedAdminRule, PlacedBaseRule, PlacedNetRule, PodEnd, admin_places, admin_places_of, admin_rules_of, base_places, base_rules_of, is_isolated, isolates, net_places, net_places_of, net_rules_of, net_selects, subject_selects}
-use Rattle.np_rules.proofs.LayerLemmas.{placed_in}
 use Rattle.np_rules.proofs.PolicyRulesLemmas.{placed_admin}
+use Rattle.np_explain.proofs.NamedLemmas.{net_made}
 
 -- ---- any kind of placed rules
 
@@ -139,7 +139,7 @@ spaced placed = (placed.policy.namespace, placed.rule)
 abbrev in_space : List ℕ → NetRule → List ℕ × NetRule
 in_space namespace rule = (namespace, rule)
 
-spaced_numbered : (policy : NetPolicy) (m : ℕ) (xs : List NetRule) → map spaced (map (placed_in policy) (enumerate_from m xs)) ≡ map (in_space policy.namespace) xs
+spaced_numbered : (policy : NetPolicy) (m : ℕ) (xs : List NetRule) → map spaced (map (net_made policy) (enumerate_from m xs)) ≡ map (in_space policy.namespace) xs
 spaced_numbered policy m [] = refl
 spaced_numbered policy m (x ∷ xs) = ap (λ (ys : List (List ℕ × NetRule)). (policy.namespace, x) ∷ ys) (spaced_numbered policy (m + 1) xs)
 
@@ -193,7 +193,7 @@ module _ (rules : List RuleRef) (direction : Direction) (p : PodEnd) where
           spaced_numbered (net_without rules (n, policy)) 0 (unwrap_or (net_rules_of direction (net_without rules (n, policy))) [])
           ∙ ap (λ (found : Option (List NetRule)). map (in_space policy.namespace) (unwrap_or found [])) (net_rules_left n policy)
           ∙ ap (map (in_space policy.namespace)) (or_none (goes rules Net n direction) (net_rules_of direction policy))
-          ∙ stay_in_one (placed_in policy) spaced (in_space policy.namespace) n net_stays (goes rules Net n direction) (λ e. refl) (λ e. refl) (unwrap_or (net_rules_of direction policy) [])
+          ∙ stay_in_one (net_made policy) spaced (in_space policy.namespace) n net_stays (goes rules Net n direction) (λ e. refl) (λ e. refl) (unwrap_or (net_rules_of direction policy) [])
       one false = refl
 
   abbrev pub IsNetAt : List NetPolicy → ℕ × PlacedNetRule → Type 0
