@@ -14,6 +14,7 @@ use Rattle.np_conns.specs.Prelude.{Conns, has_spot}
 use Rattle.np_table.proofs.RangeWalks.{walk-right}
 use Rattle.np_conns.proofs.ConnLemmas.{conns_of-has}
 use Rattle.np_table.specs.Prelude.{AreRight, Stretch, address_row, four_of, rows_of_addresses, six_of, walk}
+use Rattle.np_table.proofs.RangeOneList.{AreRight-ordered}
 
 -- ---- numbers from 0 on
 
@@ -96,11 +97,6 @@ broken_stretch wanted conns address ranges stretch = with_spot (option_map addre
 abbrev broken_number : Wanted → Conns → (ℕ → Address) → List (Range ℕ) → (ℕ → PortSpot → Bool) → ℕ → Option BreakingAddress
 broken_number wanted conns address ranges passes n = broken_with address ranges (first_spot (breaks wanted conns (passes n))) n
 
-right_ordered : (passes : ℕ → PortSpot → Bool) (from to : ℕ) (before : Option Conns) (stretches : List Stretch) → AreRight passes from to before stretches → from ≤ to
-right_ordered passes from to before [] are = omega arith
-right_ordered passes from to before (stretch ∷ stretches) are =
-    omega (arith, are.0.start, are.0.filled, right_ordered passes (stretch.hi + 1) to (Some stretch.conns) stretches are.1)
-
 by_stretches : (wanted : Wanted) (conns : Conns) (address : ℕ → Address) (ranges : List (Range ℕ)) (passes : ℕ → PortSpot → Bool) (least last from to count : ℕ) (before : Option Conns)
     (stretches : List Stretch) →
     IsAscending (λ a. a) least last ranges → AreRight passes from to before stretches → from + count ≡ to →
@@ -108,7 +104,7 @@ by_stretches : (wanted : Wanted) (conns : Conns) (address : ℕ → Address) (ra
 by_stretches wanted conns address ranges passes least last from to count before [] ascends are ends =
     let none : count ≡ 0 = omega arith in rw none refl
 by_stretches wanted conns address ranges passes least last from to count before (stretch ∷ stretches) ascends are ends =
-    let ordered = right_ordered passes (stretch.hi + 1) to (Some stretch.conns) stretches are.1 in
+    let ordered = AreRight-ordered passes (stretch.hi + 1) to (Some stretch.conns) stretches are.1 in
     let start = are.0.start in
     let filled = are.0.filled in
     let own = stretch.hi + 1 - stretch.lo in

@@ -12,7 +12,7 @@ use Rattle.std.specs.List.{AllByRecursion, list_all, range_with_len, slice_get}
 use Rattle.std.specs.Prelude.{AllPairs}
 use Rattle.std.specs.Str.Parse.{AllDigits}
 use Rattle.std.specs.Str.{bytes_eq}
-use Rattle.np_addr.specs.Prelude.{IsAddressSet, prefixes_of}
+use Rattle.np_addr.specs.Prelude.{prefixes_of}
 use Rattle.np_command_flatten.specs.Prelude.{AddressRow, AreApart, Block, Cidr, Direction, Egress, EstateLists, Ingress, NetPeer, NetRule, Proto, Range, Sctp, Tcp, Udp, estate_with, is_printable, is_printable_block, is_printable_peer, is_printable_port, is_printable_rule}
 use Rattle.np_base.proofs.Lists.{list_all-both}
 use Rattle.np_base.proofs.Bools.{not_both}
@@ -34,14 +34,13 @@ use Rattle.np_labels.specs.WellFormed as labels
 use Rattle.np_labels.specs.declared.pair.Pair.{Pair}
 use Rattle.np_model.specs.WellPolicies.{is_well_selector}
 use Rattle.np_rules.specs.Prelude.{no_pod, pod_end}
-use Rattle.np_flatten.proofs.AddressVerdicts.{IsWellSpan, rows-well}
+use Rattle.np_flatten.proofs.AddressVerdicts.{IsWellSpan, rows-well, span-set}
 use Rattle.np_flatten.proofs.KindGroups.{in_count}
 use Rattle.np_flatten.proofs.ReceiverFacts.{group-first-in, groups-le}
 use Rattle.np_flatten.specs.Prelude.{blocks_of_span, family_of_list, first_of_group, flat_name, flat_policies, flat_policy, group_count, group_firsts, group_namespace, group_peer, group_rows, group_selector, ingress_rules, namespace_named, ports_of, ranges_of_span, receiver_in, relevant, requirement_at, requirement_of_key, rule_if, rules_from_group, rules_from_groups, rules_of_addresses, rules_of_set, set_from, set_in, set_of, span_of, spans_of_all}
 use Rattle.np_kinds.proofs.PairLemmas.{pod_there, source-within}
 use Rattle.np_kinds.specs.Prelude.{first_end, number_of_workloads, pair_allows, source_pod}
 use Rattle.np_table.specs.Prelude.{address_rows, estate_table, is_nothing}
-use Rattle.np_table.specs.declared.rows.AddressSpan.{AddressSpan}
 use Rattle.np_table.specs.declared.rows.AddressSpan.TheVariants as span
 use Rattle.np_manifests.specs.Lists.{list_data}
 use Rattle.np_command_flatten.proofs.EstateLemmas.{estate_of-list}
@@ -141,10 +140,6 @@ flat-printable f [] all = refl
 flat-printable f (x ∷ xs) all = list_all-both is_printable_rule (f x) (flat_map f xs) all.0 (flat-printable f xs all.1)
 
 -- ---- rules of addresses
-
-span-set : (addresses : AddressSpan) → IsWellSpan addresses → IsAddressSet (ranges_of_span addresses)
-span-set (span.Four range) well = ((omega arith, well.0, well.1, tt), tt)
-span-set (span.Six range) well = (tt, (omega arith, well.0, well.1, tt))
 
 blocks-printable : (blocks : List Cidr) → list_all is_printable_block blocks ≡ true → list_all is_printable_peer (map (λ cidr. Block cidr []) blocks) ≡ true
 blocks-printable [] all = refl

@@ -1,8 +1,7 @@
 -- What `flatten` refuses, pod by pod. For PromiseLemmas.
-use Rattle.std.proofs.Common.{◌≡◌, ◌≢◌, ◌⊎◌, ◌==◌, ℕ, ◌<◌, ◌-◌, ◌^◌, ◌++◌, List, [], ◌∷◌, Bool, true, false, Contains, Option, Some, not, map, length, get_or, eq-eqb, ne_eqb, lit≤, arith, refl, sym, ap, subst, ◌∙◌, inl, inr}
+use Rattle.std.proofs.Common.{◌≡◌, ◌≢◌, ◌⊎◌, ◌==◌, ℕ, ◌<◌, ◌-◌, ◌^◌, ◌++◌, List, [], ◌∷◌, Bool, true, false, Contains, Some, not, map, length, get_or, eq-eqb, ne_eqb, lit≤, arith, refl, sym, ap, subst, ◌∙◌, inl, inr}
 use Rattle.std.specs.List.{list_any}
 use Rattle.std.specs.List.Sorted.{IsStrictlySortedBy}
-use Rattle.std.specs.Option.{option_map_or}
 use Rattle.std.specs.Ordering.{nat_cmp}
 use Rattle.std.proofs.lemmas.Bool.{cases_eq, cases_lt, false_from_ne_true, not-true, true≢false}
 use Rattle.std.proofs.lemmas.Map.Keys.{below_from_sorted}
@@ -11,29 +10,24 @@ use Rattle.np_addr.specs.declared.address.Family.TheVariants.{Four, Six}
 use Rattle.np_command.specs.declared.fault.Fault.TheVariants as fault
 use Rattle.np_command_flatten.proofs.FlattenLemmas.{fault-workloads}
 use Rattle.np_conns.specs.Prelude.{is_spot}
-use Rattle.np_fold.proofs.WorkloadLemmas.{number-in_workloads, one_workload, pods-ascend}
+use Rattle.np_fold.proofs.WorkloadLemmas.{pods-ascend}
 use Rattle.np_fold.specs.Prelude.{Folding, folding_of, members_of, name_of_workload, workload_number}
 use Rattle.np_model.specs.Prelude.{IsLawful, families_of}
-use Rattle.np_model.specs.declared.pod.Pod.{Pod}
-use Rattle.np_rules.specs.Prelude.{no_pod, pod_at, pod_end}
-use Rattle.np_flatten.proofs.AddressVerdicts.{row_tells, rows-any}
+use Rattle.np_rules.specs.Prelude.{pod_at}
+use Rattle.np_flatten.proofs.AddressVerdicts.{row_tells}
 use Rattle.np_flatten.proofs.GroupLemmas.{look_decides}
-use Rattle.np_flatten.proofs.KindGroups.{kind-looks}
 use Rattle.np_flatten.proofs.RefusedLemmas.{alike_differ, alike_is_first, alike_together, nothing_split, split_differs, split_is_first}
 use Rattle.np_flatten.proofs.SplitLemmas.{families_cases}
-use Rattle.np_flatten.specs.Prelude.{AreFamiliesAlike as FamiliesPassAlike, AreTreatedAlike as WorkloadsPassAlike, PassTheSame, are_together, family_of_list, first_family, flat_fault, is_defined, look_alike, relevant, seen}
+use Rattle.np_flatten.specs.Prelude.{AreFamiliesAlike as FamiliesPassAlike, AreTreatedAlike as WorkloadsPassAlike, PassTheSame, are_together, family_of_list, first_family, flat_fault, is_defined, look_alike, relevant}
 use Rattle.np_kinds.proofs.MemberLemmas.{destination-member, member-number, members-some, members-within, not-alone, own-member, source-member}
-use Rattle.np_kinds.proofs.PairLemmas.{between_pods-pair_allows, pair_allows-alone, pod_there, with_address-address_allows}
+use Rattle.np_kinds.proofs.PairLemmas.{between_pods-pair_allows, pair_allows-alone, with_address-address_allows}
 use Rattle.np_table.proofs.RangeOneList.{walk-agrees}
 use Rattle.np_kinds.specs.Prelude.{address_allows, between_pods, destination_pod, first_end, is_alone, number_of_workloads, pair_allows, source_pod}
 use Rattle.np_table.specs.Prelude.{IsInFamily, Stretch, address_row, address_rows, estate_table, four_of, rows_of_addresses, six_of, table_of, walk}
 use Rattle.np_table.specs.declared.rows.AddressRow.{AddressRow}
+use Rattle.np_flatten.proofs.FlatVerdicts.{number-within, row-any, seen-pod}
 
 -- ---- pods of workloads
-
-number-within : (lists : EstateLists) (p : ℕ) → p < length lists.pods → workload_number lists p < number_of_workloads lists
-unfolding folding_of
-number-within lists p within = number-in_workloads lists p within
 
 -- the first pod of a workload is one of the estate, and of the workload
 first-pod : (lists : EstateLists) (a : ℕ) → a < number_of_workloads lists → (source_pod (folding_of lists) a < length lists.pods) × (workload_number lists (source_pod (folding_of lists) a) ≡ a)
@@ -152,11 +146,6 @@ same-rows : (lists : EstateLists) (a b : ℕ) (direction : Direction) →
 unfolding address_rows table_of
 same-rows lists a b direction agree = rows-agree (address_allows lists (folding_of lists) a direction) (address_allows lists (folding_of lists) b direction) agree
 
-row-any : (lists : EstateLists) (a : ℕ) (direction : Direction) (family : Family) (number : ℕ) (spot : PortSpot) → IsInFamily family number → is_spot spot ≡ true →
-    list_any (row_tells family number spot) (address_rows (estate_table lists) a direction) ≡ address_allows lists (folding_of lists) a direction family number spot
-unfolding address_rows table_of
-row-any lists a direction family number spot within inside = rows-any (address_allows lists (folding_of lists) a direction) family number spot within inside
-
 same-addresses : (lists : EstateLists) (a b : ℕ) (direction : Direction) (family : Family) (number : ℕ) (spot : PortSpot) →
     address_rows (estate_table lists) a direction ≡ address_rows (estate_table lists) b direction → IsInFamily family number → is_spot spot ≡ true →
     address_allows lists (folding_of lists) a direction family number spot ≡ address_allows lists (folding_of lists) b direction family number spot
@@ -175,17 +164,6 @@ first-listed : (lists : EstateLists) → Contains (families_of lists.pods) (fami
 first-listed lists = contains-first (families_of lists.pods) (families_cases lists.pods)
 
 -- ---- pods that selectors do not tell apart
-
--- what selectors see of a pod is what they see of the first pod of its workload
-seen-pod : (lists : EstateLists) (p : ℕ) → p < length lists.pods → seen (relevant lists) (pod_at lists p) ≡ seen (relevant lists) (first_end lists (workload_number lists p))
-seen-pod lists p p_in =
-    let (first_in, first_of) = first-pod lists (workload_number lists p) (number-within lists p p_in) in
-    let (one, one_is) = pod_there lists p p_in in
-    let (other, other_is) = pod_there lists (source_pod (folding_of lists) (workload_number lists p)) first_in in
-    let alike = (one_workload lists p (source_pod (folding_of lists) (workload_number lists p)) one other one_is other_is).0 (sym first_of) in
-    ap (λ (found : Option Pod). seen (relevant lists) (option_map_or pod_end found no_pod)) one_is
-    ∙ (look_decides (relevant lists) (pod_end one) (pod_end other)).0 (kind-looks lists one other alike.kind)
-    ∙ sym (ap (λ (found : Option Pod). seen (relevant lists) (option_map_or pod_end found no_pod)) other_is)
 
 -- so two pods look alike where their workloads are of one group
 module _ (lists : EstateLists) (p q : ℕ) (two : AreTwoPods lists p q) where

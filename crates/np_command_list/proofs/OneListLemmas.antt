@@ -2,17 +2,16 @@
 -- For OneTextLemmas, SameRangesLemmas and SameRowsLemmas.
 use Rattle.std.proofs.Common.{◌≡◌, ◌<◌, ◌⊎◌, inl, inr, ℕ, zero, suc, List, [], ◌∷◌, map, length, slice_index_or, Bool, true, false, All, AllPairs, Contains, Option, if◌then◌else◌, arith, refl, sym, ap, subst, ◌∙◌}
 use Rattle.std.specs.Prelude.{filter}
-use Rattle.std.specs.List.{list_any}
 use Rattle.std.specs.Cmp.{IsTotalOrder, tied_itself}
 use Rattle.std.specs.Cmp.Lexicographic.{nat_list_cmp_total, slice_cmp}
 use Rattle.std.specs.Ordering.{nat_cmp}
 use Rattle.std.specs.declared.cmp.Ordering.TheVariants.{Equal, Less}
 use Rattle.std.proofs.lemmas.Bool.{false≢true}
 use Rattle.std.proofs.lemmas.List.Elements.{All-contains, All-contains_itself, All-filter, filter_passes}
-use Rattle.std.proofs.lemmas.List.Folds.{Any-from_list_any, list_any_at}
 use Rattle.np_command_list.specs.Prelude.{ComesBefore, Family, Row, RowKey, row_rank, row_rank_of}
 use Rattle.np_conns.specs.Prelude.{has_spot}
 use Rattle.np_table.specs.Prelude.{AllowSamePorts}
+use Rattle.np_base.proofs.Lists.{AllPairs-head, AllPairs-tail}
 
 -- ---- what a list has
 
@@ -50,18 +49,6 @@ module _ {X : Type 0} where
     All-contains (λ (one : X). test one ≡ true) (filter test xs) z (filter_passes test xs) has,
   )
 
-  pub any-from : (test : X → Bool) (xs : List X) (z : X) → Contains xs z → test z ≡ true → list_any test xs ≡ true
-  any-from test xs z has is = list_any_at test xs has.0 z has.1 (ap test has.2 ∙ is)
-
-  pub any-to : (test : X → Bool) (xs : List X) → list_any test xs ≡ true → (z : X) × Contains xs z × (test z ≡ true)
-  any-to test xs is = let any = Any-from_list_any test xs is in (any.1, (any.0, any.2, any.3), any.4)
-
-  pub pairs-head : (R : X → X → Type 0) (x : X) (xs : List X) → AllPairs R (x ∷ xs) → All (R x) xs
-  pairs-head R x xs pairs = λ k d within. pairs zero (suc k) d (omega arith) (omega arith)
-
-  pub pairs-tail : (R : X → X → Type 0) (x : X) (xs : List X) → AllPairs R (x ∷ xs) → AllPairs R xs
-  pairs-tail R x xs pairs = λ i j d below within. pairs (suc i) (suc j) d (omega arith) (omega arith)
-
 -- ---- ranks
 
 -- no row comes before one of its rank
@@ -77,10 +64,10 @@ before-trans one other third first second = let total : IsTotalOrder (slice_cmp 
 -- of rows in order no two have one rank
 pub one-of_rank : (rows : List Row) → AllPairs ComesBefore rows → (one other : Row) → Contains rows one → Contains rows other → row_rank one ≡ row_rank other → one ≡ other
 one-of_rank [] order one other has has' same = absurd (nothing-has one has)
-one-of_rank (row ∷ rows) order one other has has' same = by (has-cases row one rows has) (has-cases row other rows has') (one-of_rank rows (pairs-tail ComesBefore row rows order) one other)
+one-of_rank (row ∷ rows) order one other has has' same = by (has-cases row one rows has) (has-cases row other rows has') (one-of_rank rows (AllPairs-tail ComesBefore row rows order) one other)
   where
     later : All (ComesBefore row) rows
-    later = pairs-head ComesBefore row rows order
+    later = AllPairs-head ComesBefore row rows order
 
     by : (row ≡ one) ⊎ Contains rows one → (row ≡ other) ⊎ Contains rows other → (Contains rows one → Contains rows other → row_rank one ≡ row_rank other → one ≡ other) → one ≡ other
     by (inl is) (inl is') rest = sym is ∙ is'
@@ -111,7 +98,7 @@ tails-among row other rows others order same among = λ one has.
     elim (has-cases other found.0 others found.1) [
       | inl is ↦
           absurd (apart row one (same ∙ ap row_rank is ∙ sym (told-rank one found.0 found.2.key found.2.family))
-          (All-contains (ComesBefore row) rows one (pairs-head ComesBefore row rows order) has))
+          (All-contains (ComesBefore row) rows one (AllPairs-head ComesBefore row rows order) has))
       | inr behind ↦ (found.0, behind, found.2)
     ]
 
@@ -129,12 +116,12 @@ heads-alike row other rows others order order' among among' =
     by mate back (inr behind) (inl is') =
         let same = told-rank row mate.0 mate.2.key mate.2.family in
         let same' = told-rank other back.0 back.2.key back.2.family in
-        absurd (apart other mate.0 (same' ∙ sym (ap row_rank is') ∙ same) (All-contains (ComesBefore other) others mate.0 (pairs-head ComesBefore other others order') behind))
+        absurd (apart other mate.0 (same' ∙ sym (ap row_rank is') ∙ same) (All-contains (ComesBefore other) others mate.0 (AllPairs-head ComesBefore other others order') behind))
     by mate back (inr behind) (inr behind') =
         let same = told-rank row mate.0 mate.2.key mate.2.family in
         let same' = told-rank other back.0 back.2.key back.2.family in
-        let down : ComesBefore other mate.0 = All-contains (ComesBefore other) others mate.0 (pairs-head ComesBefore other others order') behind in
-        let up : ComesBefore row back.0 = All-contains (ComesBefore row) rows back.0 (pairs-head ComesBefore row rows order) behind' in
+        let down : ComesBefore other mate.0 = All-contains (ComesBefore other) others mate.0 (AllPairs-head ComesBefore other others order') behind in
+        let up : ComesBefore row back.0 = All-contains (ComesBefore row) rows back.0 (AllPairs-head ComesBefore row rows order) behind' in
         let first : ComesBefore row other = ap (λ (rank : List ℕ). slice_cmp nat_cmp (row_rank row) rank) same' ∙ up in
         absurd (apart row mate.0 same (before-trans row other mate.0 first down))
 
@@ -149,5 +136,5 @@ told-alike {Y} text alike (row ∷ rows) (other ∷ others) order order' among a
     let heads = heads-alike row other rows others order order' among among' in
     let same = told-rank row other heads.key heads.family in
     ap (λ (first : Y). first ∷ map text rows) (alike row other heads)
-    ∙ ap (λ (rest : List Y). text other ∷ rest) (told-alike text alike rows others (pairs-tail ComesBefore row rows order) (pairs-tail ComesBefore other others order')
+    ∙ ap (λ (rest : List Y). text other ∷ rest) (told-alike text alike rows others (AllPairs-tail ComesBefore row rows order) (AllPairs-tail ComesBefore other others order')
     (tails-among row other rows others order same among) (tails-among other row others rows order' (sym same) among'))

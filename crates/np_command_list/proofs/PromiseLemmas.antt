@@ -13,11 +13,11 @@ use Rattle.np_fold.specs.Prelude.{folding_of, workload_number}
 use Rattle.np_model.specs.Prelude.{IsLawful}
 use Rattle.np_report.specs.Prelude.{keeps, list_text, names_of, report_text, shown_rows, texts_of}
 use Rattle.np_report.specs.declared.query.Query.TheVariants as query
-use Rattle.np_routes.proofs.ClusterLemmas.{allows_in-workloads, rows_between-cluster, rows_from_controller-kept, rows_of_address-cluster, workload-end}
+use Rattle.np_routes.proofs.ClusterLemmas.{allows_in-workloads, rows_between-cluster, rows_from_controller-kept, rows_of_address-cluster}
 use Rattle.np_routes.proofs.ReachedLemmas.{number-workload, reaches-allows}
 use Rattle.np_routes.specs.Prelude.{cluster_rows, cluster_table, ingress_allows, ingress_reaches, is_controller, rows_from_controller, sender_of}
 use Rattle.np_table.proofs.AddressRowLemmas.{one_row-pods}
-use Rattle.np_table.proofs.RowLemmas.{rows_between-kept, rows_of_address-kept}
+use Rattle.np_table.proofs.RowLemmas.{is_workload-end, rows_between-kept, rows_of_address-kept}
 use Rattle.np_table.proofs.SaidLemmas.{allows_in-pods}
 use Rattle.np_table.specs.Prelude.{Table, all_rows, allows_in, is_address, is_of_address, is_workload, key_of, rows_between, rows_of_address, table_of}
 use Rattle.np_kinds.specs.Prelude.{source_pod}
@@ -67,13 +67,13 @@ address-key workload Ingress family number row is =
     let far = address-end family number row.key.source ends.0 in
     let from : RowEnd → RowKey = λ end. record { source = end; destination = row.key.destination } in
     let to : RowEnd → RowKey = λ end. record { source = Span far.0; destination = end } in
-    (far.0, ap from far.1 ∙ ap to (workload-end workload row.key.destination ends.1))
+    (far.0, ap from far.1 ∙ ap to (is_workload-end workload row.key.destination ends.1))
 address-key workload Egress family number row is =
     let ends = and_parts (is_workload workload row.key.source) (is_address family number row.key.destination) is in
     let far = address-end family number row.key.destination ends.1 in
     let from : RowEnd → RowKey = λ end. record { source = end; destination = row.key.destination } in
     let to : RowEnd → RowKey = λ end. record { source = Work workload; destination = end } in
-    (far.0, ap from (workload-end workload row.key.source ends.0) ∙ ap to far.1)
+    (far.0, ap from (is_workload-end workload row.key.source ends.0) ∙ ap to far.1)
 
 says_addresses : (lists : EstateLists) (sender : Option ℕ) (query : Query) → IsLawful lists → SaysAddresses lists query (rows_shown lists sender query)
 says_addresses lists sender query lawful = λ p direction family number addresses within in_family kept.

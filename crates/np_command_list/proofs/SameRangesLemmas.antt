@@ -2,7 +2,6 @@
 use Rattle.std.proofs.Common.{◌≡◌, ◌≤◌, ◌+◌, ◌-◌, inl, inr, ℕ, List, [], ◌∷◌, Bool, true, ◌&&◌, nat_le, Contains, Option, arith, eq-eqb, refl, sym, ap, subst, ◌∙◌}
 use Rattle.std.proofs.lemmas.Bool.{and_from, and_parts, cases_lt, false≢true, le-leb, leb-true}
 use Rattle.std.proofs.Math.Bool.{and-true}
-use Rattle.np_routes.proofs.ClusterLemmas.{workload-end}
 use Rattle.np_command_list.specs.Prelude.{AddressSpan, Controller, Direction, Egress, EstateLists, Family, Four, Ingress, IsAddressRow, IsPodOf, IsRowOf, PortSpot, Query, Range, Row, RowEnd, RowKey, SayWhatPasses, Six, Span, Work}
 use Rattle.np_base.specs.Ranges.{is_within}
 use Rattle.np_conns.specs.Prelude.{has_spot, is_spot}
@@ -13,6 +12,7 @@ use Rattle.np_report.specs.Prelude.{keeps}
 use Rattle.np_table.specs.Prelude.{IsInFamily, OneRowSays, is_address, is_of_address, is_workload, key_of, rows_of_address, span_has}
 use Rattle.np_kinds.specs.Prelude.{with_address}
 use Rattle.np_table.specs.declared.rows.AddressSpan.TheVariants as span
+use Rattle.np_table.proofs.RowLemmas.{is_workload-end}
 
 -- ---- spans
 
@@ -71,11 +71,11 @@ of_address-range : (workload : ℕ) (direction : Direction) (family : Family) (n
 of_address-range workload Ingress family number row is =
     let ends = and_parts (is_address family number row.key.source) (is_workload workload row.key.destination) is in
     let far = address-end family number row.key.source ends.0 in
-    (far.0, key-from row.key (Span (span_of family far.0)) (Work workload) far.1 (workload-end workload row.key.destination ends.1), far.2)
+    (far.0, key-from row.key (Span (span_of family far.0)) (Work workload) far.1 (is_workload-end workload row.key.destination ends.1), far.2)
 of_address-range workload Egress family number row is =
     let ends = and_parts (is_workload workload row.key.source) (is_address family number row.key.destination) is in
     let far = address-end family number row.key.destination ends.1 in
-    (far.0, key-from row.key (Work workload) (Span (span_of family far.0)) (workload-end workload row.key.source ends.0) far.1, far.2)
+    (far.0, key-from row.key (Work workload) (Span (span_of family far.0)) (is_workload-end workload row.key.source ends.0) far.1, far.2)
 
 -- the row of such a key is one of addresses
 address-is : (lists : EstateLists) (workload : ℕ) (direction : Direction) (family : Family) (range : Range ℕ) (row : Row) →

@@ -8,13 +8,15 @@ use Rattle.np_model.proofs.FamilyLemmas.{same_family-itself}
 use Rattle.np_conns.specs.Prelude.{has_spot, is_spot}
 use Rattle.np_fold.specs.Prelude.{workload_number}
 use Rattle.np_model.specs.Prelude.{families_of, same_family}
-use Rattle.np_command_list.proofs.OneListLemmas.{AreToldAlike, any-from, any-to, from-kept, kept, has-head, one-of_rank, told-rank}
+use Rattle.np_command_list.proofs.OneListLemmas.{AreToldAlike, from-kept, kept, has-head, one-of_rank, told-rank}
 use Rattle.np_command_list.proofs.RowPartLemmas.{Agree, agree-one, families-cases}
 use Rattle.np_report.specs.Prelude.{keeps}
 use Rattle.np_routes.specs.Prelude.{ingress_key, is_from_controller, is_ingress_controller, rows_from_controller}
-use Rattle.np_routes.proofs.ClusterLemmas.{controller-end, workload-end}
+use Rattle.np_routes.proofs.ClusterLemmas.{controller-end}
 use Rattle.np_table.specs.Prelude.{allows_in, is_between, is_workload, pair_key, rows_between, says, speaks_of}
 use Rattle.np_kinds.specs.Prelude.{between_pods}
+use Rattle.np_table.proofs.RowLemmas.{is_workload-end}
+use Rattle.np_routes.proofs.RouteLemmas.{passes_some, some_passes}
 
 -- ---- small facts
 
@@ -109,16 +111,16 @@ module _ (lists : EstateLists) (sender : Option ℕ) (query : Query) where
     is_between-key : (row : Row) → is_between source destination row ≡ true → row.key ≡ pair_key source destination
     is_between-key row is =
         let ends = and_parts (is_workload source row.key.source) (is_workload destination row.key.destination) is in
-        key-from row.key (Work source) (Work destination) (workload-end source row.key.source ends.0) (workload-end destination row.key.destination ends.1)
+        key-from row.key (Work source) (Work destination) (is_workload-end source row.key.source ends.0) (is_workload-end destination row.key.destination ends.1)
 
     -- what one of them says is what they say
     pair-says : (rows : List Row) → Says rows → (row : Row) → Contains rows row → row.key ≡ pair_key source destination → (family : Family) → speaks_of row.family family ≡ true → (spot : PortSpot) →
         has_spot row.conns spot ≡ allows_in (rows_between source destination rows) family spot
     pair-says rows say row has key family speaks spot =
         both_ways (has_spot row.conns spot) (allows_in (rows_between source destination rows) family spot)
-        (λ passes. any-from (says family spot) (rows_between source destination rows) row (kept (is_between source destination) rows row has (is_between-own row key)) (and_from _ _ speaks passes))
+        (λ passes. passes_some (says family spot) (rows_between source destination rows) row (kept (is_between source destination) rows row has (is_between-own row key)) (and_from _ _ speaks passes))
         (λ allowed.
-        let found = any-to (says family spot) (rows_between source destination rows) allowed in
+        let found = some_passes (says family spot) (rows_between source destination rows) allowed in
         let among = from-kept (is_between source destination) rows found.0 found.1 in
         let key' = is_between-key found.0 among.1 in
         let parts = and_parts (speaks_of found.0.family family) (has_spot found.0.conns spot) found.2 in
@@ -138,7 +140,7 @@ module _ (lists : EstateLists) (sender : Option ℕ) (query : Query) where
         ∙ sym (between-is others say' is.p is.q is.sender is.receiver is.apart family.0 spot family.1 in_space) in
         let some = is.some in
         let allowed = sym (same some.0 some.1) ∙ sym (pair-says rows say row has key family.0 family.2 some.0) ∙ some.2 in
-        let found = any-to (says family.0 some.0) (rows_between source destination others) allowed in
+        let found = some_passes (says family.0 some.0) (rows_between source destination others) allowed in
         let among = from-kept (is_between source destination) others found.0 found.1 in
         let key' = is_between-key found.0 among.1 in
         let parts = and_parts (speaks_of found.0.family family.0) (has_spot found.0.conns some.0) found.2 in
@@ -161,7 +163,7 @@ module _ (lists : EstateLists) (sender : Option ℕ) (query : Query) where
     is_from_controller-key : (row : Row) → is_from_controller workload row ≡ true → row.key ≡ ingress_key workload
     is_from_controller-key row is =
         let ends = and_parts (is_ingress_controller row.key.source) (is_workload workload row.key.destination) is in
-        key-from row.key Controller (Work workload) (controller-end row.key.source ends.0) (workload-end workload row.key.destination ends.1)
+        key-from row.key Controller (Work workload) (controller-end row.key.source ends.0) (is_workload-end workload row.key.destination ends.1)
 
     ingress-unmarked : (rows : List Row) → Says rows → (row : Row) → Contains rows row → row.key ≡ ingress_key workload → row.family ≡ None
     ingress-unmarked rows say row has key = let is : IsIngressRow lists workload row = row-of rows say row (ingress_key workload) has key in is.unmarked
@@ -171,10 +173,10 @@ module _ (lists : EstateLists) (sender : Option ℕ) (query : Query) where
     ingress-says rows say row has key spot =
         let unmarked = ingress-unmarked rows say row has key in
         both_ways (has_spot row.conns spot) (allows_in (rows_from_controller workload rows) Four spot)
-        (λ passes. any-from (says Four spot) (rows_from_controller workload rows) row (kept (is_from_controller workload) rows row has (is_from_controller-own row key))
+        (λ passes. passes_some (says Four spot) (rows_from_controller workload rows) row (kept (is_from_controller workload) rows row has (is_from_controller-own row key))
         (and_from _ _ (ap (λ (mark : Option Family). speaks_of mark Four) unmarked) passes))
         (λ allowed.
-        let found = any-to (says Four spot) (rows_from_controller workload rows) allowed in
+        let found = some_passes (says Four spot) (rows_from_controller workload rows) allowed in
         let among = from-kept (is_from_controller workload) rows found.0 found.1 in
         let key' = is_from_controller-key found.0 among.1 in
         let parts = and_parts (speaks_of found.0.family Four) (has_spot found.0.conns spot) found.2 in
@@ -194,7 +196,7 @@ module _ (lists : EstateLists) (sender : Option ℕ) (query : Query) where
         ∙ sym (say'.ingresses is.p Four spot is.receiver.0 in_space reached) ∙ sym (own others say' spot in_space) in
         let some = is.some in
         let allowed = sym (same some.0 some.1) ∙ sym (ingress-says rows say row has key some.0) ∙ some.2 in
-        let found = any-to (says Four some.0) (rows_from_controller workload others) allowed in
+        let found = some_passes (says Four some.0) (rows_from_controller workload others) allowed in
         let among = from-kept (is_from_controller workload) others found.0 found.1 in
         let key' = is_from_controller-key found.0 among.1 in (
           found.0,

@@ -1,5 +1,5 @@
 -- How many rows the tables of the samples have. For `samples_have_few_rows` and crates above.
-use Rattle.std.proofs.Common.{◌≡◌, ℕ, zero, suc, ◌+◌, ◌*◌, ◌-◌, ◌^◌, ◌<◌, ◌≤◌, List, [], ◌∷◌, ◌++◌, map, Bool, true, false, length, Option, None, Some, if◌then◌else◌, refl, sym, ap, ◌∙◌, arith, length-append}
+use Rattle.std.proofs.Common.{◌≡◌, ℕ, zero, suc, ◌+◌, ◌*◌, ◌-◌, ◌^◌, ◌<◌, ◌≤◌, List, [], ◌∷◌, ◌++◌, map, Bool, length, Option, None, Some, refl, sym, ap, ◌∙◌, arith, length-append}
 use Rattle.std.specs.List.{flat_map}
 use Rattle.std.proofs.lemmas.Bool.{cond_both}
 use Rattle.std.proofs.lemmas.List.{length-map}
@@ -15,12 +15,13 @@ use Rattle.np_routes.proofs.ClusterLemmas.{ingress_row-one}
 use Rattle.np_rules.specs.Prelude.{pod_at}
 use Rattle.np_table.proofs.RangeOneList.{right-walk}
 use Rattle.np_conns.proofs.ConnLemmas.{conns_of-agrees}
-use Rattle.np_table.specs.Prelude.{IsNext, Stretch, Table, address_row, address_rows, all_address_rows, all_pair_rows, all_rows, estate_table, four_of, is_nothing, pair_key, pair_rows, row_if, row_of, rows_in, rows_of_addresses, rows_of_both, rows_towards, six_of, stretch_at, table_of, walk, walk_on, workloads}
+use Rattle.np_table.specs.Prelude.{IsNext, Stretch, Table, address_row, address_rows, all_address_rows, all_pair_rows, all_rows, estate_table, four_of, pair_key, pair_rows, row_if, row_of, rows_in, rows_of_addresses, rows_of_both, rows_towards, six_of, stretch_at, table_of, walk, walk_on, workloads}
 use Rattle.np_kinds.specs.Prelude.{address_allows, source_pod}
 use Rattle.np_table.specs.declared.rows.Row.{Row}
 use Rattle.np_table.specs.declared.rows.RowKey.{RowKey}
 use Rattle.np_command_sample.proofs.AddressLemmas.{with_address-six}
 use Rattle.np_command_sample.proofs.WorkloadLemmas.{workload_count-sample}
+use Rattle.np_table.proofs.SaidLemmas.{row_if-one}
 
 -- where each gives at most so many
 pub length-flat_map-le : {X Y : Type 0} (f : X → List Y) (most : ℕ) → ((x : X) → length (f x) ≤ most) → (xs : List X) → length (flat_map f xs) ≤ most * length xs
@@ -29,22 +30,15 @@ length-flat_map-le f most each (x ∷ xs) = omega (arith, length-append (f x) (f
 
 -- ---- rows of pairs and of the controller
 
-length-row_if : (key : RowKey) (mark : Option Family) (conns : Conns) → length (row_if key mark conns) ≤ 1
-length-row_if key mark conns = by (is_nothing conns)
-  where
-    by : (nothing : Bool) → length {A = Row} (if nothing then [] else record { key = key; family = mark; conns = conns } ∷ []) ≤ 1
-    by true = omega arith
-    by false = omega arith
-
 length-rows_of_both : (key : RowKey) (four six : Conns) → length (rows_of_both key four six) ≤ 2
 length-rows_of_both key four six =
     cond_both (are_same_conns four six) _ _ (λ (rows : List Row). length rows ≤ 2)
-    (λ same. omega (arith, length-row_if key None four))
-    (λ differ. omega (arith, length-append (row_if key (Some family.Four) four) (row_if key (Some family.Six) six), length-row_if key (Some family.Four) four, length-row_if key (Some family.Six) six))
+    (λ same. omega (arith, row_if-one key None four))
+    (λ differ. omega (arith, length-append (row_if key (Some family.Four) four) (row_if key (Some family.Six) six), row_if-one key (Some family.Four) four, row_if-one key (Some family.Six) six))
 
 length-rows_in : (families : List Family) (key : RowKey) (conns : Family → Conns) → length (rows_in families key conns) ≤ 2
 length-rows_in [] key conns = length-rows_of_both key (conns family.Four) (conns family.Six)
-length-rows_in (one ∷ []) key conns = omega (arith, length-row_if key None (conns one))
+length-rows_in (one ∷ []) key conns = omega (arith, row_if-one key None (conns one))
 length-rows_in (one ∷ other ∷ families) key conns = length-rows_of_both key (conns family.Four) (conns family.Six)
 
 length-pair_rows : (table : Table) (source destination : ℕ) → length (pair_rows table source destination) ≤ 2

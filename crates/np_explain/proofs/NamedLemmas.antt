@@ -1,5 +1,5 @@
 -- What decides at an end is well named, where the policies are well formed.
--- For `deciders_of_read_policies_are_well_named` and `parts_have_texts_of_their_own`.
+-- For `deciders_of_read_policies_are_well_named`, `parts_have_texts_of_their_own` and crates above.
 use Rattle.std.proofs.Common.{◌≡◌, ◌≢◌, ℕ, ◌+◌, ◌<◌, ◌≤◌, ◌^◌, List, [], ◌∷◌, ◌++◌, length, map, filter, find, Bool, true, false, not, ◌||◌, ◌==◌, codes, Option, Some, None, All, AllPairs, unwrap_or, refl, sym, ◌∙◌, subst, arith, if◌then◌else◌}
 use Rattle.std.specs.List.{enumerate_from, flat_map, list_all}
 use Rattle.std.specs.Option.{option_map_or}
@@ -67,7 +67,7 @@ All-of test (x ∷ xs) all =
 of_least : {X : Type 0} (P : X → Type 0) (precedes : X → X → Bool) (xs : List X) → All P xs → (x : X) → least_by precedes xs ≡ Some x → P x
 of_least P precedes xs all x is = among_all P xs all x (least_is_among precedes xs x is)
 
-of_found : {X : Type 0} (P : X → Type 0) (test : X → Bool) (xs : List X) → All P xs → (x : X) → find test xs ≡ Some x → P x
+pub of_found : {X : Type 0} (P : X → Type 0) (test : X → Bool) (xs : List X) → All P xs → (x : X) → find test xs ≡ Some x → P x
 of_found P test [] all x is = cc
 of_found {X} P test (y ∷ ys) all x is = by (test y) (of_found P test ys (All-tail P y ys all) x) is
   where
@@ -133,7 +133,7 @@ module _ {A R X : Type 0} (test chosen : A → Bool) (rules : A → List R) (mak
       let below = flat-below place_of rules_of (λ a. chosen-below place_of (make a) (placed a) (chosen a) (rules a)) owners in
       rule-is (name_of _) (place_of _) (length (flat_map rules_of owners)) (names-are named owners well k d within) (below k d within) few
 
-abbrev net_made : NetPolicy → ℕ × NetRule → PlacedNetRule
+abbrev pub net_made : NetPolicy → ℕ × NetRule → PlacedNetRule
 net_made policy numbered = record { policy = policy; place = numbered.0; rule = numbered.1 }
 
 module _ (direction : Direction) (p : PodEnd) where

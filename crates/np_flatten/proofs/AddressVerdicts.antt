@@ -1,25 +1,28 @@
 -- What the rules of ranges of addresses allow. For FlatVerdicts, ReceiverFacts and crates above.
-use Rattle.std.proofs.Common.{◌≡◌, ℕ, ◌+◌, ◌-◌, ◌^◌, ◌<◌, ◌≤◌, List, [], ◌∷◌, ◌++◌, Bool, true, false, ◌&&◌, ◌||◌, nat_le, Option, Some, None, map, if◌then◌else◌, lit≤, refl, sym, ap, ◌∙◌, arith, inl, inr}
+use Rattle.std.proofs.Common.{◌≡◌, ℕ, ◌+◌, ◌-◌, ◌^◌, ◌<◌, ◌≤◌, List, [], ◌∷◌, Bool, true, false, ◌&&◌, ◌||◌, nat_le, Option, Some, None, map, if◌then◌else◌, lit≤, refl, sym, ap, ◌∙◌, arith, inl, inr}
 use Rattle.std.specs.List.{AllByRecursion, list_any}
 use Rattle.std.proofs.lemmas.Bool.{and_from, cases_lt, le-leb, lt-leb, true≢false}
 use Rattle.std.proofs.lemmas.List.Folds.{list_any-append}
+use Rattle.std.proofs.Math.Bool.{and-false, and-true, or-false}
 use Rattle.np_addr.proofs.RightPrefixes.{prefixes_of-right}
 use Rattle.np_addr.specs.Prelude.{IsAddressSet, block_has, cidr_has, prefixes_of, set_has, some_block_has}
 use Rattle.np_addr.specs.declared.address.Address.{Address}
 use Rattle.np_addr.specs.declared.address.Address.TheVariants as address
-use Rattle.np_flatten.specs.Prelude.{AddressRow, AddressSpan, Block, Family, NetPeer, NetRule, PortSpot, Proto, Sctp, Tcp, Udp, blocks_of_span, ports_of, ranges_of_span, rule_if, rules_of_addresses}
+use Rattle.np_flatten.specs.Prelude.{AddressRow, AddressSpan, Block, Family, NetPeer, NetRule, PortSpot, blocks_of_span, ports_of, ranges_of_span, rule_if, rules_of_addresses}
 use Rattle.np_addr.specs.declared.address.Family.TheVariants as family
 use Rattle.np_addr.specs.declared.cidr.Cidr.{Cidr}
 use Rattle.np_conns.specs.Prelude.{Conns, has_spot, is_spot}
 use Rattle.np_rules.specs.Prelude.{Contact, ModelEnd, PodEnd, address, net_entry_matches, net_peer_matches, net_rule_matches, none_or_any, pod}
-use Rattle.np_flatten.proofs.OnePolicy.{any-agree, any-map}
+use Rattle.np_flatten.proofs.OnePolicy.{any-map}
 use Rattle.np_flatten.proofs.PortLemmas.{is_none-map, none_or_any-some, ports-match}
-use Rattle.np_flatten.proofs.SplitLemmas.{nothing_is}
 use Rattle.np_table.proofs.RangeWalks.{walk-right}
 use Rattle.np_conns.proofs.ConnLemmas.{conns_of-has}
 use Rattle.np_table.specs.Prelude.{AreRight, IsInFamily, Stretch, address_row, four_of, has_no_range, is_nothing, is_within, rows_of_addresses, six_of, span_has, walk}
 use Rattle.np_kinds.specs.Prelude.{address_numbered}
 use Rattle.np_table.specs.declared.rows.AddressSpan.TheVariants as span
+use Rattle.np_base.proofs.Each.{All-append}
+use Rattle.np_table.proofs.SaidLemmas.{has_spot-nothing}
+use Rattle.np_base.proofs.Lists.{list_any-agrees}
 
 -- ---- the right list
 
@@ -35,18 +38,6 @@ later-none passes n from to before (stretch ∷ stretches) spot are less =
     rw (lt-leb stretch.lo n (omega (arith, are.0.start, less)))
     (later-none passes n (stretch.hi + 1) to (Some stretch.conns) stretches spot are.1 (omega (arith, are.0.start, are.0.filled, less)))
 
-or_false : (b : Bool) → (b || false) ≡ b
-or_false true = refl
-or_false false = refl
-
-and_true : (b : Bool) → (b && true) ≡ b
-and_true true = refl
-and_true false = refl
-
-and_false : (b : Bool) → (b && false) ≡ false
-and_false true = refl
-and_false false = refl
-
 -- some stretch of the right list has a number and a spot where the spot passes at the number
 right-any : (passes : ℕ → PortSpot → Bool) (n from to : ℕ) (before : Option Conns) (stretches : List Stretch) (spot : PortSpot) → AreRight passes from to before stretches → from ≤ n → n < to →
     is_spot spot ≡ true → list_any (tells n spot) stretches ≡ passes n spot
@@ -55,13 +46,13 @@ right-any passes n from to before (stretch ∷ stretches) spot are low high is =
     elim (cases_lt stretch.hi n) [
       | inl past ↦
           rw (lt-leb n stretch.hi past)
-          (ap (λ (b : Bool). b && has_spot stretch.conns spot || list_any (tells n spot) stretches) (and_false (nat_le stretch.lo n))
+          (ap (λ (b : Bool). b && has_spot stretch.conns spot || list_any (tells n spot) stretches) (and-false (nat_le stretch.lo n))
           ∙ right-any passes n (stretch.hi + 1) to (Some stretch.conns) stretches spot are.1 (omega arith) high is)
       | inr inside ↦
           let lo = le-leb stretch.lo n (omega (arith, are.0.start, low)) in
           let hi = le-leb n stretch.hi inside in
           rw (lo, hi, later-none passes n (stretch.hi + 1) to (Some stretch.conns) stretches spot are.1 (omega arith))
-          (or_false (has_spot stretch.conns spot)
+          (or-false (has_spot stretch.conns spot)
           ∙ ap (λ (conns : Conns). has_spot conns spot) (sym (are.0.conns n (omega (arith, are.0.start, low)) inside))
           ∙ conns_of-has (passes n) spot is)
     ]
@@ -86,7 +77,7 @@ rows-any passes family.Four number spot within is =
     list_any-append (row_tells family.Four number spot) (map (address_row four_of) (walk (passes family.Four) 0 (2 ^ 32 - 1))) (map (address_row six_of) (walk (passes family.Six) 0 (2 ^ 128 - 1)))
     ∙ ap (λ (b : Bool). list_any (row_tells family.Four number spot) (map (address_row four_of) (walk (passes family.Four) 0 (2 ^ 32 - 1))) || b)
     (any-map (row_tells family.Four number spot) (address_row six_of) (walk (passes family.Six) 0 (2 ^ 128 - 1)) ∙ any-never (walk (passes family.Six) 0 (2 ^ 128 - 1)))
-    ∙ or_false (list_any (row_tells family.Four number spot) (map (address_row four_of) (walk (passes family.Four) 0 (2 ^ 32 - 1))))
+    ∙ or-false (list_any (row_tells family.Four number spot) (map (address_row four_of) (walk (passes family.Four) 0 (2 ^ 32 - 1))))
     ∙ any-map (row_tells family.Four number spot) (address_row four_of) (walk (passes family.Four) 0 (2 ^ 32 - 1))
     ∙ walk-any (passes family.Four) (2 ^ 32 - 1) number spot within is
 rows-any passes family.Six number spot within is =
@@ -102,6 +93,13 @@ abbrev pub IsWellSpan : AddressSpan → Type 0
 IsWellSpan (span.Four range) = (range.lo ≤ range.hi) × (range.hi ≤ 2 ^ 32 - 1)
 IsWellSpan (span.Six range) = (range.lo ≤ range.hi) × (range.hi ≤ 2 ^ 128 - 1)
 
+-- what follows a stretch does not end before it
+ends : (passes : ℕ → PortSpot → Bool) (from to last hi : ℕ) (before : Option Conns) (stretches : List Stretch) → AreRight passes from to before stretches → from ≡ hi + 1 → to ≡ last + 1 →
+    hi ≤ last
+ends passes from to last hi before [] are is is' = omega (arith, are, is, is')
+ends passes from to last hi before (stretch ∷ stretches) are is is' = omega
+    (arith, are.0.start, are.0.filled, is, ends passes (stretch.hi + 1) to last stretch.hi (Some stretch.conns) stretches are.1 refl is')
+
 wells-four : (passes : ℕ → PortSpot → Bool) (from : ℕ) (before : Option Conns) (stretches : List Stretch) → AreRight passes from (2 ^ 32 - 1 + 1) before stretches →
     AllByRecursion (λ (row : AddressRow). IsWellSpan row.span) (map (address_row four_of) stretches)
 wells-four passes from before [] are = tt
@@ -110,12 +108,6 @@ wells-four passes from before (stretch ∷ stretches) are = (
   wells-four passes (stretch.hi + 1)
       (Some stretch.conns) stretches are.1,
 )
-  where
-    ends : (passes : ℕ → PortSpot → Bool) (from to last hi : ℕ) (before : Option Conns) (stretches : List Stretch) → AreRight passes from to before stretches → from ≡ hi + 1 → to ≡ last + 1 →
-        hi ≤ last
-    ends passes from to last hi before [] are is is' = omega (arith, are, is, is')
-    ends passes from to last hi before (stretch ∷ stretches) are is is' = omega
-        (arith, are.0.start, are.0.filled, is, ends passes (stretch.hi + 1) to last stretch.hi (Some stretch.conns) stretches are.1 refl is')
 
 wells-six : (passes : ℕ → PortSpot → Bool) (from : ℕ) (before : Option Conns) (stretches : List Stretch) → AreRight passes from (2 ^ 128 - 1 + 1) before stretches →
     AllByRecursion (λ (row : AddressRow). IsWellSpan row.span) (map (address_row six_of) stretches)
@@ -125,40 +117,30 @@ wells-six passes from before (stretch ∷ stretches) are = (
   wells-six passes (stretch.hi + 1)
       (Some stretch.conns) stretches are.1,
 )
-  where
-    ends : (passes : ℕ → PortSpot → Bool) (from to last hi : ℕ) (before : Option Conns) (stretches : List Stretch) → AreRight passes from to before stretches → from ≡ hi + 1 → to ≡ last + 1 →
-        hi ≤ last
-    ends passes from to last hi before [] are is is' = omega (arith, are, is, is')
-    ends passes from to last hi before (stretch ∷ stretches) are is is' = omega
-        (arith, are.0.start, are.0.filled, is, ends passes (stretch.hi + 1) to last stretch.hi (Some stretch.conns) stretches are.1 refl is')
-
-all-append : {X : Type 0} (P : X → Type 0) (xs ys : List X) → AllByRecursion P xs → AllByRecursion P ys → AllByRecursion P (xs ++ ys)
-all-append P [] ys all more = more
-all-append P (x ∷ xs) ys all more = (all.0, all-append P xs ys all.1 more)
 
 pub rows-well : (passes : Family → ℕ → PortSpot → Bool) → AllByRecursion (λ (row : AddressRow). IsWellSpan row.span) (rows_of_addresses passes)
 rows-well passes =
-    all-append (λ (row : AddressRow). IsWellSpan row.span) (map (address_row four_of) (walk (passes family.Four) 0 (2 ^ 32 - 1))) (map (address_row six_of) (walk (passes family.Six) 0 (2 ^ 128 - 1)))
+    All-append (λ (row : AddressRow). IsWellSpan row.span) (map (address_row four_of) (walk (passes family.Four) 0 (2 ^ 32 - 1))) (map (address_row six_of) (walk (passes family.Six) 0 (2 ^ 128 - 1)))
     (wells-four (passes family.Four) 0 None (walk (passes family.Four) 0 (2 ^ 32 - 1)) (walk-right (passes family.Four) 0 (2 ^ 32 - 1) (lit≤ tt)))
     (wells-six (passes family.Six) 0 None (walk (passes family.Six) 0 (2 ^ 128 - 1)) (walk-right (passes family.Six) 0 (2 ^ 128 - 1) (lit≤ tt)))
 
 -- ---- blocks
 
-span-set : (s : AddressSpan) → IsWellSpan s → IsAddressSet (ranges_of_span s)
+pub span-set : (s : AddressSpan) → IsWellSpan s → IsAddressSet (ranges_of_span s)
 span-set (span.Four range) well = ((omega arith, well.0, well.1, tt), tt)
 span-set (span.Six range) well = (tt, (omega arith, well.0, well.1, tt))
 
 -- the set of a span has the addresses of the span
 set-span : (s : AddressSpan) (family : Family) (number : ℕ) → set_has (ranges_of_span s) (address_numbered family number) ≡ span_has s family number
-set-span (span.Four range) family.Four number = or_false (nat_le range.lo number && nat_le number range.hi)
+set-span (span.Four range) family.Four number = or-false (nat_le range.lo number && nat_le number range.hi)
 set-span (span.Four range) family.Six number = refl
 set-span (span.Six range) family.Four number = refl
-set-span (span.Six range) family.Six number = or_false (nat_le range.lo number && nat_le number range.hi)
+set-span (span.Six range) family.Six number = or-false (nat_le range.lo number && nat_le number range.hi)
 
 blocks-any : (namespace : List ℕ) (cidrs : List Cidr) (a : Address) → list_any (λ peer. net_peer_matches namespace peer (address a)) (map (λ cidr. Block cidr []) cidrs) ≡ some_block_has cidrs a
 blocks-any namespace cidrs a =
     any-map (λ (peer : NetPeer). net_peer_matches namespace peer (address a)) (λ (cidr : Cidr). Block cidr []) cidrs
-    ∙ any-agree (λ (cidr : Cidr). block_has cidr [] a) (λ (cidr : Cidr). cidr_has cidr a) cidrs (λ cidr. and_true (cidr_has cidr a))
+    ∙ list_any-agrees (λ (cidr : Cidr). block_has cidr [] a) (λ (cidr : Cidr). cidr_has cidr a) (λ cidr. and-true (cidr_has cidr a)) cidrs
 
 -- a peer of a span matches the addresses of the span
 span-any : (namespace : List ℕ) (s : AddressSpan) (family : Family) (number : ℕ) → IsWellSpan s →
@@ -193,14 +175,6 @@ span-some s well =
 
 -- ---- rules
 
-pub nothing-has : (conns : Conns) (spot : PortSpot) → is_nothing conns ≡ true → has_spot conns spot ≡ false
-nothing-has conns spot is = ap (λ (c : Conns). has_spot c spot) (nothing_is conns is) ∙ by spot.proto
-  where
-    by : (proto : Proto) → has_spot (record { tcp = []; udp = []; sctp = [] }) (record { proto = proto; port = spot.port }) ≡ false
-    by Tcp = refl
-    by Udp = refl
-    by Sctp = refl
-
 abbrev pub at_address : Family → ℕ → ModelEnd → PortSpot → Contact
 at_address family number destination spot = record { far = address (address_numbered family number); destination = destination; family = family; spot = spot }
 
@@ -211,9 +185,9 @@ row-permits namespace row family number destination spot well is = by (is_nothin
     by : (nothing : Bool) → is_nothing row.conns ≡ nothing →
         list_any (λ rule. net_rule_matches namespace rule (at_address family number destination spot))
         (if nothing then [] else record { peers = blocks_of_span row.span; ports = ports_of row.conns } ∷ []) ≡ row_tells family number spot row
-    by true none = sym (ap (λ (b : Bool). span_has row.span family number && b) (nothing-has row.conns spot none) ∙ and_false (span_has row.span family number))
+    by true none = sym (ap (λ (b : Bool). span_has row.span family number && b) (has_spot-nothing row.conns spot none) ∙ and-false (span_has row.span family number))
     by false some =
-        or_false (none_or_any (λ peer. net_peer_matches namespace peer (address (address_numbered family number))) (blocks_of_span row.span) && none_or_any
+        or-false (none_or_any (λ peer. net_peer_matches namespace peer (address (address_numbered family number))) (blocks_of_span row.span) && none_or_any
         (λ entry. net_entry_matches entry destination spot) (ports_of row.conns))
         ∙ rw (
           none_or_any-some (λ (peer : NetPeer). net_peer_matches namespace peer (address (address_numbered family number))) (blocks_of_span row.span) (span-some row.span well),

@@ -4,7 +4,7 @@ use Rattle.std.specs.Prelude.{filter}
 use Rattle.std.specs.Bool.{Decides, MatchBool}
 use Rattle.std.specs.Cmp.Lexicographic.{pointwise}
 use Rattle.std.specs.List.{list_any}
-use Rattle.std.proofs.lemmas.Bool.{and_parts, false_from_ne_true, ne_eqb, or_parts, true≢false}
+use Rattle.std.proofs.lemmas.Bool.{and_parts, false_from_ne_true, ne_eqb, not-false, or_parts, true≢false}
 use Rattle.std.proofs.lemmas.Bool.Decides.{Decides-and, Decides-eqb}
 use Rattle.std.proofs.lemmas.List.Folds.{list_any-append}
 use Rattle.std.proofs.lemmas.Slice.Eq.{slice_eq-Decides}
@@ -18,6 +18,7 @@ use Rattle.np_table.specs.Prelude.{address_rows, estate_table}
 use Rattle.np_base.specs.Ranges.{are_same_range}
 use Rattle.np_kinds.specs.Prelude.{number_of_workloads}
 use Rattle.np_table.specs.declared.rows.AddressSpan.TheVariants as span
+use Rattle.np_base.proofs.Bools.{not_itself}
 
 -- ---- what agrees
 
@@ -72,12 +73,8 @@ from_among {X} {Y} f p (first ∷ xs) y among = by (p first) refl among (from_am
 
 -- ---- sets
 
-not_false : (b : Bool) → not b ≡ false → b ≡ true
-not_false true is = refl
-not_false false is = let never : true ≡ false = is in absurd (cc)
-
 same-from : (one other : Conns) → not (are_same_conns one other) ≡ false → one ≡ other
-same-from one other is = (are_same_conns-Decides one other).0 (not_false _ is)
+same-from one other is = (are_same_conns-Decides one other).0 (not-false _ is)
 
 same-not : (one other : Conns) → one ≡ other → not (are_same_conns one other) ≡ false
 same-not one other is = ap not ((are_same_conns-Decides one other).1 is)
@@ -148,9 +145,9 @@ to_agree lists a b a_in b_in apart is =
     let outer = or_parts (differ_at_some lists a b || two_differ (own_sets lists a b)) (differ_at_addresses lists a b) is in
     let inner = or_parts (differ_at_some lists a b) (two_differ (own_sets lists a b)) outer.0 in
     let towards = or_parts (differ_towards lists a b Ingress) (differ_towards lists a b Egress || false) outer.1 in
-    let ingress = (rows_decide (address_rows (estate_table lists) a Ingress) (address_rows (estate_table lists) b Ingress)).0 (not_false _ towards.0) in
+    let ingress = (rows_decide (address_rows (estate_table lists) a Ingress) (address_rows (estate_table lists) b Ingress)).0 (not-false _ towards.0) in
     let egress = (rows_decide (address_rows (estate_table lists) a Egress) (address_rows (estate_table lists) b Egress)).0
-    (not_false _ (or_parts (differ_towards lists a b Egress) false towards.1).0) in
+    (not-false _ (or_parts (differ_towards lists a b Egress) false towards.1).0) in
     let ab = own-among lists a b (a, b) (inr (inl refl)) (apart-defined lists a b apart) in
     let ba = own-among lists a b (b, a) (inr (inr (inl refl))) (apart-defined lists b a (λ same. apart (sym same))) in
     record {
@@ -162,8 +159,8 @@ to_agree lists a b a_in b_in apart is =
       alone = ap (λ (rows : List AddressRow). (rows, address_rows (estate_table lists) a Egress)) ingress ∙ ap (λ (rows : List AddressRow). (address_rows (estate_table lists) b Ingress, rows)) egress;
     }
 
-not_itself : (x y : ℕ) → not (x == y) ≡ true → x ≢ y
-not_itself x y is same = true≢false (sym is ∙ ap not (eq-eqb x y same))
+not_equal : (x y : ℕ) → not (x == y) ≡ true → x ≢ y
+not_equal x y is same = true≢false (sym is ∙ ap not (eq-eqb x y same))
 
 -- and two that agree do not differ
 pub from_agree : (lists : EstateLists) (a b : ℕ) → a < number_of_workloads lists → b < number_of_workloads lists → a ≢ b → Agrees lists a b → differ lists a b ≡ false
@@ -179,8 +176,8 @@ from_agree lists a b a_in b_in apart agree =
             let outer = and_parts (not (found.0 == a) && not (found.0 == b))
             (not (are_same_conns (set_of lists a found.0) (set_of lists b found.0)) || not (are_same_conns (set_of lists found.0 a) (set_of lists found.0 b))) found.2 in
             let inner = and_parts (not (found.0 == a)) (not (found.0 == b)) outer.0 in
-            let ca = not_itself found.0 a inner.0 in
-            let cb = not_itself found.0 b inner.1 in
+            let ca = not_equal found.0 a inner.0 in
+            let cb = not_equal found.0 b inner.1 in
             let sends = same-not _ _ (agree.sends found.0 found.1 ca cb) in
             let receives = same-not _ _ (agree.receives found.0 found.1 ca cb) in
             true≢false (sym outer.1 ∙ rw (sends, receives) refl)
@@ -214,13 +211,9 @@ from_agree lists a b a_in b_in apart agree =
 pub none_more : (p : ℕ → Bool) (n : ℕ) → list_any p (places n) ≡ false → p n ≡ false → list_any p (places (n + 1)) ≡ false
 none_more p n none here = ap (list_any p) (places_more n) ∙ list_any-append p (places n) (n ∷ []) ∙ rw (none, here) refl
 
-not_not : (b : Bool) → b ≡ not b → ⊥
-not_not true same = true≢false same
-not_not false same = true≢false (sym same)
-
 -- what tells whether sets have the same members is the test
 pub same-told : (one other : Conns) (answer : Bool) → MatchBool answer (one ≡ other) ((spot : PortSpot) × (has_spot one spot ≡ not (has_spot other spot))) → answer ≡ are_same_conns one other
 same-told one other true same = sym ((are_same_conns-Decides one other).1 same)
 same-told one other false apart =
     sym (false_from_ne_true (are_same_conns one other) (λ yes.
-    not_not (has_spot other apart.0) (ap (λ (conns : Conns). has_spot conns apart.0) (sym ((are_same_conns-Decides one other).0 yes)) ∙ apart.1)))
+    not_itself (has_spot other apart.0) (ap (λ (conns : Conns). has_spot conns apart.0) (sym ((are_same_conns-Decides one other).0 yes)) ∙ apart.1)))

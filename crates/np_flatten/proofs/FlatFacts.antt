@@ -1,7 +1,7 @@
 -- What holds of an estate without a fault. For `groups_give_the_sets`.
 use Rattle.std.proofs.Common.{◌≡◌, ◌≢◌, ◌⊎◌, ℕ, ◌<◌, List, [], ◌∷◌, Bool, true, false, not, ◌&&◌, ◌||◌, ◌==◌, Contains, Option, Some, None, map, refl, sym, ap, subst, ◌∙◌, inl, inr, arith}
 use Rattle.std.specs.List.{AllByRecursion, find, list_any}
-use Rattle.std.proofs.lemmas.Bool.{and_from, cases_Bool, cases_eq, cases_order, eqb-true, eq-eqb, lt-ltb, true≢false}
+use Rattle.std.proofs.lemmas.Bool.{and_from, cases_Bool, cases_eq, cases_order, eqb-true, eq-eqb, lt-ltb, true≢false, not-false, and_parts}
 use Rattle.std.proofs.lemmas.List.Elements.{All-contains, All-from_recursion, recursion_from_All}
 use Rattle.np_flatten.specs.Prelude.{EstateLists, Family, Four, Six, are_together, differ, fault_by, first_family, first_of_group, first_pair, flat_fault, group_of, is_defined, is_split, is_unlike, receiver_in, set_from, set_in, set_of, two_differ}
 use Rattle.np_classes.proofs.Lists.{All-places, any_place}
@@ -69,12 +69,8 @@ pub same_sets : (sets : Family → Conns) (families : List Family) → ((family 
 same_sets sets families (inl one) none = subst (λ (fs : List Family). AllByRecursion (λ family. sets family ≡ sets (first_family fs)) fs) (sym one.1) (refl, tt)
 same_sets sets families (inr both) none =
     let two : two_differ (sets Four ∷ sets Six ∷ []) ≡ false = subst (λ (fs : List Family). two_differ (map sets fs) ≡ false) both none in
-    let same : are_same_conns (sets Four) (sets Six) ≡ true = by (are_same_conns (sets Four) (sets Six)) (sym (two_differ-two (sets Four) (sets Six)) ∙ two) in
+    let same : are_same_conns (sets Four) (sets Six) ≡ true = not-false (are_same_conns (sets Four) (sets Six)) (sym (two_differ-two (sets Four) (sets Six)) ∙ two) in
     subst (λ (fs : List Family). AllByRecursion (λ family. sets family ≡ sets (first_family fs)) fs) (sym both) (refl, (sym ((are_same_conns-Decides (sets Four) (sets Six)).0 same), tt))
-  where
-    by : (b : Bool) → not b ≡ false → b ≡ true
-    by true is = refl
-    by false is = let never : true ≡ false = is in absurd (cc)
 
 -- in each family of the list the same passes
 pub family-set : (lists : EstateLists) → flat_fault lists ≡ None → (x y : ℕ) (family : Family) → x < number_of_workloads lists → y < number_of_workloads lists → is_defined lists x y ≡ true →
@@ -106,12 +102,8 @@ found-in lists source group w within same is =
     let bounds = recursion_from_All (λ (k : ℕ). k < number_of_workloads lists) (places (number_of_workloads lists))
     (All-places (λ (k : ℕ). k < number_of_workloads lists) (number_of_workloads lists) (λ k below. below)) in
     let there = find-some p (number_of_workloads lists) (places (number_of_workloads lists)) bounds (any_place p (number_of_workloads lists) w within passes) in
-    let parts = and_both (group_of lists there.0 == group) (is_defined lists source there.0) there.2 in
+    let parts = and_parts (group_of lists there.0 == group) (is_defined lists source there.0) there.2 in
     (there.0, there.1, eqb-true (group_of lists there.0) group parts.0, parts.1, there.3)
-  where
-    and_both : (x y : Bool) → (x && y) ≡ true → (x ≡ true) × (y ≡ true)
-    and_both true y is = (refl, is)
-    and_both false y is = let never : false ≡ true = is in absurd (cc)
 
 -- the first workload of a group is of it
 pub first-of : (lists : EstateLists) (x : ℕ) → x < number_of_workloads lists →

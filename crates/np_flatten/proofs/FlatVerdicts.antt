@@ -7,6 +7,7 @@ use Rattle.std.proofs.lemmas.Bool.{false_from_ne_true}
 use Rattle.std.proofs.lemmas.List.Elements.{All-get_or}
 use Rattle.std.proofs.lemmas.List.Folds.{list_any-append}
 use Rattle.std.proofs.lemmas.Option.{get_or_from_slice_get, slice_get-get_or}
+use Rattle.std.proofs.Math.Bool.{and-false, and-true, or-false}
 use Rattle.np_flatten.specs.Prelude.{AddressRow, Direction, Egress, EstateLists, Family, Ingress, NetPeer, NetRule, Pod, PortSpot, are_together, egress_rules, first_of_group, flat_fault, flat_policy, flattened, group_count, group_namespace, group_of, group_peer, group_rows, ingress_rules, is_defined, look_alike, ports_of, relevant, rule_if, rules_from_group, rules_from_groups, rules_of_addresses, rules_of_set, seen, set_from, set_in}
 use Rattle.np_classes.proofs.Relations.{class_of_first, class_within, firsts_within, same_class}
 use Rattle.np_classes.specs.Classes.{firsts, places}
@@ -16,13 +17,13 @@ use Rattle.np_fold.proofs.WorkloadLemmas.{number-in_workloads, one_workload}
 use Rattle.np_fold.specs.Prelude.{folding_of, workload_number}
 use Rattle.np_labels.specs.Prelude.{value_of}
 use Rattle.np_rules.specs.Prelude.{Contact, ModelEnd, PodEnd, address, allows, net_entry_matches, net_peer_matches, net_rule_matches, net_rules_of, net_selects, no_pod, none_or_any, pod, pod_at, pod_end, side_allows}
-use Rattle.np_flatten.proofs.AddressVerdicts.{IsWellSpan, addresses-no_pod, addresses-permit, any-never, at_address, nothing-has, row_tells, rows-any, rows-well}
+use Rattle.np_flatten.proofs.AddressVerdicts.{IsWellSpan, addresses-no_pod, addresses-permit, any-never, at_address, row_tells, rows-any, rows-well}
 use Rattle.np_flatten.proofs.ClassFirsts.{first-alike}
 use Rattle.np_flatten.proofs.DifferLemmas.{own_rows}
 use Rattle.np_flatten.proofs.FlatFacts.{family-set, first-of, group-rows, set_from-is}
 use Rattle.np_flatten.proofs.GroupLemmas.{look_decides, together-is}
 use Rattle.np_flatten.proofs.KindGroups.{kind-looks}
-use Rattle.np_flatten.proofs.OnePolicy.{any-agree, any-flat_map, only-one, side-by_one}
+use Rattle.np_flatten.proofs.OnePolicy.{any-flat_map, only-one, side-by_one}
 use Rattle.np_flatten.proofs.PortLemmas.{ports-match}
 use Rattle.np_flatten.proofs.SelectLemmas.{meets-namespace_named, meets-selector_of}
 use Rattle.np_kinds.specs.Prelude.{address_allows, address_numbered, between_pods, first_end, number_of_workloads, pair_allows, source_pod, with_address}
@@ -30,15 +31,17 @@ use Rattle.np_kinds.proofs.MemberLemmas.{member-number, members-some, members-wi
 use Rattle.np_kinds.proofs.PairLemmas.{between_pods-pair_allows, pod_there, with_address-address_allows}
 use Rattle.np_conns.proofs.ConnLemmas.{conns_of-has}
 use Rattle.np_table.specs.Prelude.{IsInFamily, address_rows, estate_table, is_nothing, table_of}
+use Rattle.np_table.proofs.SaidLemmas.{has_spot-nothing}
+use Rattle.np_base.proofs.Lists.{list_any-agrees}
 
 -- ---- pods and groups
 
-number-within : (lists : EstateLists) (p : ℕ) → p < length lists.pods → workload_number lists p < number_of_workloads lists
+pub number-within : (lists : EstateLists) (p : ℕ) → p < length lists.pods → workload_number lists p < number_of_workloads lists
 unfolding folding_of
 number-within lists p within = number-in_workloads lists p within
 
 -- what selectors see of a pod is what they see of the first pod of its workload
-seen-pod : (lists : EstateLists) (p : ℕ) → p < length lists.pods → seen (relevant lists) (pod_at lists p) ≡ seen (relevant lists) (first_end lists (workload_number lists p))
+pub seen-pod : (lists : EstateLists) (p : ℕ) → p < length lists.pods → seen (relevant lists) (pod_at lists p) ≡ seen (relevant lists) (first_end lists (workload_number lists p))
 seen-pod lists p within =
     let folding = folding_of lists in
     let x = workload_number lists p in
@@ -121,14 +124,6 @@ abbrev told : Option Conns → PortSpot → Bool
 told None spot = false
 told (Some set) spot = has_spot set spot
 
-or_false : (b : Bool) → (b || false) ≡ b
-or_false true = refl
-or_false false = refl
-
-and_false : (b : Bool) → (b && false) ≡ false
-and_false true = refl
-and_false false = refl
-
 rule-any : (namespace : List ℕ) (peer : NetPeer) (set : Conns) (contact : Contact) → is_spot contact.spot ≡ true →
     list_any (λ rule. net_rule_matches namespace rule contact) (rule_if (peer ∷ []) set) ≡ (net_peer_matches namespace peer contact.far && has_spot set contact.spot)
 rule-any namespace peer set contact is = by (is_nothing set) refl
@@ -136,14 +131,14 @@ rule-any namespace peer set contact is = by (is_nothing set) refl
     by : (nothing : Bool) → is_nothing set ≡ nothing →
         list_any (λ rule. net_rule_matches namespace rule contact) (if nothing then [] else record { peers = peer ∷ []; ports = ports_of set } ∷ []) ≡
         (net_peer_matches namespace peer contact.far && has_spot set contact.spot)
-    by true none = sym (ap (λ (b : Bool). net_peer_matches namespace peer contact.far && b) (nothing-has set contact.spot none) ∙ and_false (net_peer_matches namespace peer contact.far))
+    by true none = sym (ap (λ (b : Bool). net_peer_matches namespace peer contact.far && b) (has_spot-nothing set contact.spot none) ∙ and-false (net_peer_matches namespace peer contact.far))
     by false some =
-        or_false ((net_peer_matches namespace peer contact.far || false) && none_or_any (λ entry. net_entry_matches entry contact.destination contact.spot) (ports_of set))
-        ∙ rw (or_false (net_peer_matches namespace peer contact.far), ports-match set contact.destination contact.spot is some) refl
+        or-false ((net_peer_matches namespace peer contact.far || false) && none_or_any (λ entry. net_entry_matches entry contact.destination contact.spot) (ports_of set))
+        ∙ rw (or-false (net_peer_matches namespace peer contact.far), ports-match set contact.destination contact.spot is some) refl
 
 set-any : (namespace : List ℕ) (peer : NetPeer) (set : Option Conns) (contact : Contact) → is_spot contact.spot ≡ true →
     list_any (λ rule. net_rule_matches namespace rule contact) (rules_of_set peer set) ≡ (net_peer_matches namespace peer contact.far && told set contact.spot)
-set-any namespace peer None contact is = sym (and_false (net_peer_matches namespace peer contact.far))
+set-any namespace peer None contact is = sym (and-false (net_peer_matches namespace peer contact.far))
 set-any namespace peer (Some set) contact is = rule-any namespace peer set contact is
 
 abbrev from_pod : EstateLists → ℕ → ModelEnd → Family → PortSpot → Contact
@@ -168,8 +163,8 @@ groups-no_address : (lists : EstateLists) (namespace : List ℕ) (group : ℕ) (
 groups-no_address lists namespace group family number destination spot is =
     let contact = at_address family number destination spot in
     any-flat_map (λ (rule : NetRule). net_rule_matches namespace rule contact) (rules_from_group lists group) (places (group_count lists))
-    ∙ any-agree (λ (h : ℕ). list_any (λ rule. net_rule_matches namespace rule contact) (rules_from_group lists group h)) (λ (h : ℕ). false) (places (group_count lists))
-    (λ h. set-any namespace (group_peer lists h) (set_from lists h group) contact is)
+    ∙ list_any-agrees (λ (h : ℕ). list_any (λ rule. net_rule_matches namespace rule contact) (rules_from_group lists group h)) (λ (h : ℕ). false)
+    (λ h. set-any namespace (group_peer lists h) (set_from lists h group) contact is) (places (group_count lists))
     ∙ any-never (places (group_count lists))
 
 -- ---- the sides of a pod
@@ -215,7 +210,7 @@ ingress-pod lists q p destination family spot lawful q_in p_in is =
     ∙ list_any-append (λ (rule : NetRule). net_rule_matches name rule contact) (rules_from_groups lists (group_at lists q)) (rules_of_addresses rows)
     ∙ ap (λ (b : Bool). list_any (λ rule. net_rule_matches name rule contact) (rules_from_groups lists (group_at lists q)) || b)
     (addresses-no_pod name rows (pod_at lists p) family destination spot (wells lists (group_at lists q) Ingress))
-    ∙ or_false (list_any (λ rule. net_rule_matches name rule contact) (rules_from_groups lists (group_at lists q)))
+    ∙ or-false (list_any (λ rule. net_rule_matches name rule contact) (rules_from_groups lists (group_at lists q)))
     ∙ groups-any lists name (group_at lists q) p destination family spot lawful p_in is
 
 -- ---- addresses
@@ -234,7 +229,7 @@ own-rows lists fine p direction within =
     by Ingress same = ap (λ (rows : List AddressRow × List AddressRow). rows.0) same
     by Egress same = ap (λ (rows : List AddressRow × List AddressRow). rows.1) same
 
-row-any : (lists : EstateLists) (x : ℕ) (direction : Direction) (family : Family) (number : ℕ) (spot : PortSpot) → IsInFamily family number → is_spot spot ≡ true →
+pub row-any : (lists : EstateLists) (x : ℕ) (direction : Direction) (family : Family) (number : ℕ) (spot : PortSpot) → IsInFamily family number → is_spot spot ≡ true →
     list_any (row_tells family number spot) (address_rows (estate_table lists) x direction) ≡ address_allows lists (folding_of lists) x direction family number spot
 unfolding address_rows table_of
 row-any lists x direction family number spot within is = rows-any (address_allows lists (folding_of lists) x direction) family number spot within is
@@ -276,14 +271,10 @@ unfolding allows
 addresses-same lists p direction family number spot lawful fine within in_family is =
     flat direction ∙ sym (with_address-address_allows lists p direction family number spot lawful within)
   where
-    and_true : (b : Bool) → (b && true) ≡ b
-    and_true true = refl
-    and_true false = refl
-
     flat : (d : Direction) → with_address (flattened lists) d (pod (pod_at lists p)) family number spot ≡ address_allows lists (folding_of lists) (workload_number lists p) d family number spot
     flat Ingress = address-side lists fine p Ingress family number (pod (pod_at lists p)) spot within in_family is
     flat Egress =
-        and_true (side_allows (flattened lists) Egress (pod_at lists p) (at_address family number (address (address_numbered family number)) spot))
+        and-true (side_allows (flattened lists) Egress (pod_at lists p) (at_address family number (address (address_numbered family number)) spot))
         ∙ address-side lists fine p Egress family number (address (address_numbered family number)) spot within in_family is
 
 set-has : (lists : EstateLists) (family : Family) (x y : ℕ) (spot : PortSpot) → is_spot spot ≡ true → has_spot (set_in lists family x y) spot ≡ pair_allows lists (folding_of lists) x y family spot

@@ -1,10 +1,11 @@
 -- Workloads of one kind are of one group and agree, so the least pair that differs is one of firsts. For `first_unlike` and crates above.
-use Rattle.std.proofs.Common.{◌≡◌, ℕ, ◌<◌, ◌^◌, ◌-◌, ◌++◌, List, [], ◌∷◌, Bool, true, false, not, ◌||◌, Option, Some, All, map, lit≤, refl, sym, ap, subst, ◌∙◌}
+use Rattle.std.proofs.Common.{◌≡◌, ℕ, ◌<◌, ◌^◌, ◌-◌, ◌++◌, List, [], ◌∷◌, Bool, true, ◌||◌, Option, Some, All, map, lit≤, refl, sym, ap, subst, ◌∙◌}
 use Rattle.std.specs.Option.{option_map_or}
 use Rattle.std.specs.List.{list_all}
 use Rattle.std.specs.Str.{bytes_eq}
 use Rattle.std.specs.Cmp.Lexicographic.{bytes_decides}
-use Rattle.std.proofs.lemmas.Bool.{and_from}
+use Rattle.std.proofs.lemmas.Bool.{and_from, not-true}
+use Rattle.std.proofs.Math.Bool.{or-true}
 use Rattle.np_flatten.specs.Prelude.{AddressRow, Direction, Egress, EstateLists, Family, Four, Ingress, IsLeastUnlike, Pod, PortSpot, Six, are_together, differ, ends_have_same_value, family_of_list, first_pair, first_with, is_defined, is_unlike, look_alike, relevant, set_in, set_of}
 use Rattle.np_classes.specs.Classes.{IsAlike, class_of}
 use Rattle.np_model.specs.Prelude.{IsLawful}
@@ -43,17 +44,13 @@ relevant-is : (lists : EstateLists) → relevant lists ≡ with_keys [] (keys_of
 unfolding folding_of
 relevant-is lists = refl
 
-or_true : (b : Bool) → (b || true) ≡ true
-or_true true = refl
-or_true false = refl
-
 -- what is so of each listed key is so of all keys
 pub all-listed : (test : List ℕ → Bool) (keys : List (List ℕ)) → ((key : List ℕ) → is_listed keys key ≡ true → test key ≡ true) → list_all test keys ≡ true
 all-listed test [] each = refl
 all-listed test (first ∷ keys) each =
     and_from (test first) (list_all test keys)
     (each first (ap (λ (b : Bool). b || is_listed keys first) ((bytes_decides first first).1 refl)))
-    (all-listed test keys (λ key here. each key (ap (λ (b : Bool). bytes_eq first key || b) here ∙ or_true (bytes_eq first key))))
+    (all-listed test keys (λ key here. each key (ap (λ (b : Bool). bytes_eq first key || b) here ∙ or-true (bytes_eq first key))))
 
 -- pods of one kind look alike to selectors
 pub kind-looks : (lists : EstateLists) (a b : Pod) → IsSameKind lists a b → look_alike (relevant lists) (pod_end a) (pod_end b) ≡ true
@@ -89,17 +86,13 @@ kind-together lists x y x_in y_in same =
     rw (first_end-is lists x a.0 x_in a.1, first_end-is lists y b.0 y_in b.1)
     (kind-looks lists a.0 b.0 ((one_kind lists x y a.0 b.0 a.1 b.1).0 same))
 
-not_alone : (b : Bool) → not b ≡ true → b ≡ false
-not_alone true is = let never : false ≡ true = is in absurd (cc)
-not_alone false is = refl
-
 by-kinds : (lists : EstateLists) → IsLawful lists → (x x' y y' : ℕ) → x < number_of_workloads lists → x' < number_of_workloads lists → y < number_of_workloads lists → y' < number_of_workloads lists →
     kind lists x ≡ kind lists x' → kind lists y ≡ kind lists y' → is_defined lists x y ≡ true → is_defined lists x' y' ≡ true → set_of lists x y ≡ set_of lists x' y'
 unfolding set_in
 by-kinds lists lawful x x' y y' x_in x'_in y_in y'_in near far is is' =
     conns_of-agrees _ _ (λ spot _.
     pair_allows-kinds lists x x' y y' (family_of_list lists) spot lawful (in_count lists x x_in) (in_count lists x' x'_in) (in_count lists y y_in) (in_count lists y' y'_in) near far
-    (not_alone (is_alone (folding_of lists) x y) is) (not_alone (is_alone (folding_of lists) x' y') is'))
+    (not-true (is_alone (folding_of lists) x y) is) (not-true (is_alone (folding_of lists) x' y') is'))
 
 address-same : (lists : EstateLists) (x x' : ℕ) (direction : Direction) (family : Family) (number : ℕ) (spot : PortSpot) → IsLawful lists → x < workload_count lists → x' < workload_count lists →
     kind lists x ≡ kind lists x' → address_allows lists (folding_of lists) x direction family number spot ≡ address_allows lists (folding_of lists) x' direction family number spot

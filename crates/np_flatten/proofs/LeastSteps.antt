@@ -1,6 +1,6 @@
 -- One more number, and the least pair. For `first_unlike`.
 use Rattle.std.proofs.Common.{◌≡◌, ◌≢◌, ◌⊎◌, ℕ, ◌<◌, List, [], ◌∷◌, ◌++◌, Bool, true, false, not, ◌&&◌, ◌==◌, nat_lt, if◌then◌else◌, All, Option, Some, None, refl, sym, ap, ◌∙◌, inl, inr, arith, eq-eqb}
-use Rattle.std.proofs.lemmas.Bool.{and_cases, and_from, and_parts, eqb-true, false_from_ne_true, lt-ltb, ltb-true, or_cases, or_left, or_right, true≢false}
+use Rattle.std.proofs.lemmas.Bool.{and_cases, and_from, and_parts, eqb-true, false_from_ne_true, lt-ltb, ltb-true, not-false, or_cases, or_left, or_right, true≢false}
 use Rattle.std.proofs.lemmas.List.Elements.{All-append, All-cons, All-nil, All-weaker}
 use Rattle.np_flatten.specs.Prelude.{IsLeast, IsLike, IsNotBefore, comes_before, stands_before, with_number}
 
@@ -42,10 +42,6 @@ own-not a b = false_from_ne_true (stands_before a b (a, b)) (λ yes. not_itself 
 
 -- ---- one more number
 
-not_true : (b : Bool) → not b ≡ false → b ≡ true
-not_true true is = refl
-not_true false is = let never : true ≡ false = is in absurd (cc)
-
 module _ (count : ℕ) (first : ℕ → ℕ) (differ : ℕ → ℕ → Bool) (xs : List ℕ) (w : ℕ) where
   more : (P : ℕ → Type 0) → All P xs → P w → All P (xs ++ w ∷ [])
   more P all here = All-append P xs (w ∷ []) all (All-cons P w [] here (All-nil P))
@@ -57,11 +53,11 @@ module _ (count : ℕ) (first : ℕ → ℕ) (differ : ℕ → ℕ → Bool) (xs
 
   -- one that does not come before
   pub least-skip : (found : Option (ℕ × ℕ)) → IsLeast count first differ xs found → comes_before (first w) w found ≡ false → IsLeast count first differ (xs ++ w ∷ []) found
-  least-skip None least not_so = more (IsLike first differ) least (inl (eqb-true (first w) w (not_true (first w == w) not_so)))
+  least-skip None least not_so = more (IsLike first differ) least (inl (eqb-true (first w) w (not-false (first w == w) not_so)))
   least-skip (Some pair) least not_so = (
     least.0,
     more (IsNotBefore first differ pair) least.1 (elim (and_cases (not (first w == w)) (stands_before (first w) w pair) not_so) [
-      | inl own ↦ inl (inl (eqb-true (first w) w (not_true (first w == w) own)))
+      | inl own ↦ inl (inl (eqb-true (first w) w (not-false (first w == w) own)))
       | inr behind ↦ inr behind
     ]),
   )

@@ -9,6 +9,7 @@ use Rattle.np_classes.proofs.Lists.{any_place, place_that_passes}
 use Rattle.np_classes.specs.Classes.{places}
 use Rattle.np_flatten.specs.Prelude.{Direction, EstateLists, NetPolicy, NetRule}
 use Rattle.np_rules.specs.Prelude.{Contact, PodEnd, is_isolated, isolates, net_places_of, net_rule_matches, net_rules_of, net_selects, permits, placed_net_matches, side_allows}
+use Rattle.np_base.proofs.Lists.{list_any-agrees}
 
 -- ---- tests of some item
 
@@ -57,15 +58,11 @@ any-selected direction p contact policy = by (net_selects policy p)
     by true = any-numbered contact policy 0 (unwrap_or (net_rules_of direction policy) [])
     by false = refl
 
-pub any-agree : {X : Type 0} (p q : X → Bool) (xs : List X) → ((x : X) → p x ≡ q x) → list_any p xs ≡ list_any q xs
-any-agree p q [] same = refl
-any-agree p q (x ∷ xs) same = rw (same x, any-agree p q xs same) refl
-
 permits-any : (policies : List NetPolicy) (direction : Direction) (p : PodEnd) (contact : Contact) → permits policies direction p contact ≡ list_any (policy_permits direction p contact) policies
 permits-any policies direction p contact =
     any-flat_map (placed_net_matches contact) (λ policy. if net_selects policy p then net_places_of direction policy else []) policies
-    ∙ any-agree (λ policy. list_any (placed_net_matches contact) (if net_selects policy p then net_places_of direction policy else [])) (policy_permits direction p contact) policies
-    (any-selected direction p contact)
+    ∙ list_any-agrees (λ policy. list_any (placed_net_matches contact) (if net_selects policy p then net_places_of direction policy else [])) (policy_permits direction p contact)
+    (any-selected direction p contact) policies
 
 -- ---- one policy that selects
 

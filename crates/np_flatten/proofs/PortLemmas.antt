@@ -3,6 +3,7 @@ use Rattle.std.proofs.Common.{◌≡◌, ℕ, List, [], ◌∷◌, ◌++◌, Boo
 use Rattle.std.specs.List.{list_any}
 use Rattle.std.proofs.lemmas.Bool.{and_parts, eqb-true, or_left, true≢false}
 use Rattle.std.proofs.lemmas.List.Folds.{list_any-append}
+use Rattle.std.proofs.Math.Bool.{or-false}
 use Rattle.np_base.specs.Ranges.{holds}
 use Rattle.np_flatten.specs.Prelude.{NetPort, PortSpot, Proto, Range, Sctp, Tcp, Udp, ports_of, span_of, spans_of_all}
 use Rattle.np_conns.specs.Prelude.{Conns, has_spot, is_spot, is_whole, same_proto}
@@ -42,10 +43,6 @@ other-spans : (proto : Proto) (runs : List (Range ℕ)) (destination : ModelEnd)
 other-spans proto [] destination spot apart = refl
 other-spans proto (run ∷ runs) destination spot apart = rw (apart, other-spans proto runs destination spot apart) refl
 
-or_false : (b : Bool) → (b || false) ≡ b
-or_false true = refl
-or_false false = refl
-
 all-spans : (conns : Conns) (destination : ModelEnd) (spot : PortSpot) → list_any (λ entry. net_entry_matches entry destination spot) (spans_of_all conns) ≡ has_spot conns spot
 all-spans conns destination spot =
     list_any-append (λ (entry : NetPort). net_entry_matches entry destination spot) (map (span_of Tcp) conns.tcp ++ map (span_of Udp) conns.udp) (map (span_of Sctp) conns.sctp)
@@ -64,14 +61,14 @@ all-spans conns destination spot =
           other-spans Udp conns.udp destination (record { proto = Tcp; port = spot.port }) refl,
           other-spans Sctp conns.sctp destination (record { proto = Tcp; port = spot.port }) refl,
         )
-        (or_false (holds (λ port. port) conns.tcp spot.port || false) ∙ or_false (holds (λ port. port) conns.tcp spot.port))
+        (or-false (holds (λ port. port) conns.tcp spot.port || false) ∙ or-false (holds (λ port. port) conns.tcp spot.port))
     by Udp =
         rw (
           other-spans Tcp conns.tcp destination (record { proto = Udp; port = spot.port }) refl,
           own-spans Udp conns.udp destination (record { proto = Udp; port = spot.port }) refl,
           other-spans Sctp conns.sctp destination (record { proto = Udp; port = spot.port }) refl,
         )
-        (or_false (holds (λ port. port) conns.udp spot.port))
+        (or-false (holds (λ port. port) conns.udp spot.port))
     by Sctp =
         rw (
           other-spans Tcp conns.tcp destination (record { proto = Sctp; port = spot.port }) refl,

@@ -2,7 +2,7 @@
 -- For `the_first_alike_are_told`, `the_first_split_is_told` and crates above.
 use Rattle.std.proofs.Common.{◌≡◌, ◌⊎◌, ℕ, ◌<◌, List, [], ◌∷◌, Bool, true, false, ◌&&◌, not, map, nat_lt, Option, Some, None, arith, refl, sym, ap, ◌∙◌, inl, inr}
 use Rattle.std.specs.List.{Contains}
-use Rattle.std.proofs.lemmas.Bool.{and_parts, lt-ltb, ltb-true, true≢false}
+use Rattle.std.proofs.lemmas.Bool.{and_parts, and_right, lt-ltb, ltb-true, true≢false}
 use Rattle.std.proofs.lemmas.List.Elements.{All-contains, All-from_recursion}
 use Rattle.np_flatten.specs.Prelude.{AddressRow, Alike, AreFamiliesAlike, AreTreatedAlike, Direction, Egress, EstateLists, Family, Four, Ingress, IsLexicallyBefore, PassTheSame, PortSpot, Six, Split, are_together, differ, family_of_list, fault_by, first_family, first_pair, flat_fault, is_defined, is_split, is_unlike, set_in, set_of, two_differ}
 use Rattle.np_conns.specs.Prelude.{Conns, has_spot, is_spot}
@@ -62,12 +62,8 @@ not_split lists a b none family other spot has has' inside = by (is_alone (foldi
 -- and one in which the families are alike is not split
 families_alike : (lists : EstateLists) (a b : ℕ) → AreFamiliesAlike lists a b → is_split lists a b ≡ false
 families_alike lists a b alike =
-    and_none (is_defined lists a b) _ (none_differ (λ family. set_in lists family a b) (families_of lists.pods) (families_cases lists.pods)
+    and_right (is_defined lists a b) _ (none_differ (λ family. set_in lists family a b) (families_of lists.pods) (families_cases lists.pods)
     (λ family other has has'. packets_set lists family other a b a b (λ spot inside. alike family other spot has has' inside)))
-  where
-    and_none : (a b : Bool) → b ≡ false → (a && b) ≡ false
-    and_none true b is = is
-    and_none false b is = refl
 
 -- ---- workloads that are alike to selectors
 

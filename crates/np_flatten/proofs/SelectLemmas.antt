@@ -1,23 +1,16 @@
 -- Which labels meet the selectors of groups and of namespaces. For FlatVerdicts.
-use Rattle.std.proofs.Common.{◌≡◌, ℕ, List, [], ◌∷◌, Bool, true, false, ◌&&◌, ◌||◌, codes, Option, Some, None, refl, ap, ◌∙◌}
+use Rattle.std.proofs.Common.{◌≡◌, ℕ, List, [], ◌∷◌, Bool, false, ◌&&◌, ◌||◌, codes, Option, Some, None, refl, ap, ◌∙◌}
 use Rattle.std.specs.List.{list_all}
 use Rattle.std.specs.Option.{option_eq}
 use Rattle.std.specs.Str.{bytes_eq}
+use Rattle.std.proofs.Math.Bool.{and-true, or-false}
 use Rattle.np_labels.specs.Prelude.{meets_requirement, meets_selector, value_of}
 use Rattle.np_flatten.specs.Prelude.{Pair, namespace_named, requirement_at, requirement_of_key, selector_of_keys}
-
-or_false : (b : Bool) → (b || false) ≡ b
-or_false true = refl
-or_false false = refl
-
-and_true : (b : Bool) → (b && true) ≡ b
-and_true true = refl
-and_true false = refl
 
 requirement-by : (key : List ℕ) (labels : List Pair) (wanted found : Option (List ℕ)) → value_of labels key ≡ found →
     meets_requirement (requirement_at key wanted) labels ≡ option_eq bytes_eq wanted found
 requirement-by key labels (Some value) None is = rw is refl
-requirement-by key labels (Some value) (Some other) is = rw is (or_false (bytes_eq value other))
+requirement-by key labels (Some value) (Some other) is = rw is (or-false (bytes_eq value other))
 requirement-by key labels None None is = rw is refl
 requirement-by key labels None (Some other) is = rw is refl
 
@@ -35,4 +28,4 @@ meets-selector_of (key ∷ keys) own labels =
 -- the labels of a namespace meet the selector of a name where they say the name
 pub meets-namespace_named : (name own : List ℕ) (labels : List Pair) → value_of labels (codes "kubernetes.io/metadata.name") ≡ Some own →
     meets_selector (namespace_named name) labels ≡ bytes_eq name own
-meets-namespace_named name own labels is = rw is (and_true (bytes_eq name own || false) ∙ or_false (bytes_eq name own))
+meets-namespace_named name own labels is = rw is (and-true (bytes_eq name own || false) ∙ or-false (bytes_eq name own))

@@ -3,9 +3,10 @@ use Rattle.std.proofs.Common.{◌≡◌, ℕ, ◌<◌, List, [], ◌∷◌, ◌+
 use Rattle.std.specs.Prelude.{MatchOption, is_some}
 use Rattle.std.specs.List.{find}
 use Rattle.std.specs.Option.{option_or}
-use Rattle.std.proofs.lemmas.Bool.{and_parts, cases_Bool, true≢false}
+use Rattle.std.proofs.lemmas.Bool.{and_parts, cases_Bool, not-false, true≢false}
 use Rattle.std.proofs.lemmas.List.{length-map}
 use Rattle.std.proofs.lemmas.List.Folds.{find-append}
+use Rattle.std.proofs.Math.Bool.{and-false}
 use Rattle.np_flatten.specs.Prelude.{AddressRow, Direction, Egress, EstateLists, Family, Four, Ingress, Pod, Range, Row, Six, first_pair, first_split_of, is_defined, is_split, set_in, split_of, two_differ}
 use Rattle.np_classes.specs.Classes.{places}
 use Rattle.np_conns.specs.Prelude.{Conns, are_same_conns}
@@ -121,10 +122,6 @@ two_differ-two four six = rw (same_itself four, same_itself six, same_back six f
 two_differ-one : (conns : Conns) → two_differ (conns ∷ []) ≡ false
 two_differ-one conns = rw (same_itself conns) refl
 
-and_false : (b : Bool) → (b && false) ≡ false
-and_false true = refl
-and_false false = refl
-
 -- ---- by the families of the list
 
 pub families_cases : (pods : List Pod) → ((family : Family) × (families_of pods ≡ family ∷ [])) ⊎ (families_of pods ≡ Four ∷ Six ∷ [])
@@ -141,7 +138,7 @@ one_family : (family : Family) (x y : ℕ) (sets : Family → Conns) (defined : 
     first_split_of (rows_in (family ∷ []) (pair_key x y) sets) ≡ (if defined && two_differ (map sets (family ∷ [])) then told x y else None)
 one_family family x y sets defined =
     row_if-unmarked x y (sets family)
-    ∙ sym (ap (λ (b : Bool). if b then told x y else None) (ap (λ (b : Bool). defined && b) (two_differ-one (sets family)) ∙ and_false defined))
+    ∙ sym (ap (λ (b : Bool). if b then told x y else None) (ap (λ (b : Bool). defined && b) (two_differ-one (sets family)) ∙ and-false defined))
 
 -- of two families the rows have marks where the sets differ
 two_families : (x y : ℕ) (sets : Family → Conns) (defined : Bool) → (defined ≡ false → sets Four ≡ sets Six) →
@@ -158,15 +155,11 @@ two_families x y sets defined alone =
     by false true is is' = row_if-unmarked x y (sets Four)
     by false false is is' = absurd (true≢false (sym ((are_same_conns-Decides (sets Four) (sets Six)).1 (alone is)) ∙ is'))
 
-defined_by : (alone : Bool) → not alone ≡ false → alone ≡ true
-defined_by true is = refl
-defined_by false is = let never : true ≡ false = is in absurd (cc)
-
 -- nothing passes in either family where a workload of one pod meets itself
 alone-same : (lists : EstateLists) (x y : ℕ) → is_defined lists x y ≡ false → set_in lists Four x y ≡ set_in lists Six x y
 unfolding set_in
 alone-same lists x y is =
-    let alone = defined_by (is_alone (folding_of lists) x y) is in
+    let alone = not-false (is_alone (folding_of lists) x y) is in
     conns_of-agrees _ _ (λ spot _. pair_allows-alone lists (folding_of lists) x y Four spot alone ∙ sym (pair_allows-alone lists (folding_of lists) x y Six spot alone))
 
 pair-by : (lists : EstateLists) (x y : ℕ) (families : List Family) → ((family : Family) × (families ≡ family ∷ [])) ⊎ (families ≡ Four ∷ Six ∷ [])
@@ -190,7 +183,7 @@ none_split lists few = by (families_cases lists.pods)
     by (inl one) = first_pair-none (is_split lists) (number_of_workloads lists) (λ x y _ _.
         ap (λ (families : List Family). is_defined lists x y && two_differ (map (λ family. set_in lists family x y) families)) one.1
         ∙ ap (λ (differ : Bool). is_defined lists x y && differ) (two_differ-one (set_in lists one.0 x y))
-        ∙ and_false (is_defined lists x y))
+        ∙ and-false (is_defined lists x y))
 
 -- the rows of two workloads have a mark where they are split
 pair-first : (lists : EstateLists) (x y : ℕ) → first_split_of (pair_rows (estate_table lists) x y) ≡ (if is_split lists x y then told x y else None)

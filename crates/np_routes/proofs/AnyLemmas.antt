@@ -35,10 +35,6 @@ bytes-swap a b = both_ways (bytes_eq a b) (bytes_eq b a) (λ h. (bytes_decides b
 
 -- ---- lists
 
-pub list_any-same : {X : Type 0} (f g : X → Bool) (xs : List X) → ((x : X) → f x ≡ g x) → list_any f xs ≡ list_any g xs
-list_any-same f g [] same = refl
-list_any-same f g (x ∷ xs) same = ap (λ (b : Bool). b || list_any f xs) (same x) ∙ ap (λ (b : Bool). g x || b) (list_any-same f g xs same)
-
 pub list_any-none : {X : Type 0} (f : X → Bool) (xs : List X) → ((x : X) → f x ≡ false) → list_any f xs ≡ false
 list_any-none f [] none = refl
 list_any-none f (x ∷ xs) none = ap (λ (b : Bool). b || list_any f xs) (none x) ∙ list_any-none f xs none

@@ -8,11 +8,12 @@ use Rattle.std.proofs.lemmas.Bool.{and_parts}
 use Rattle.std.proofs.lemmas.Option.{none-some}
 use Rattle.np_routes.specs.Prelude.{Backend, EstateLists, PlacedIngress, ServiceItem, is_in_namespace, is_service, leads_to, routes_in, routes_of_ingress, routes_through, service_named}
 use Rattle.np_model.specs.declared.ingress.Backend.TheVariants as backend
-use Rattle.np_routes.proofs.AnyLemmas.{list_any-none, list_any-same}
+use Rattle.np_routes.proofs.AnyLemmas.{list_any-none}
 use Rattle.np_routes.proofs.RouteLemmas.{backend_leads, by_backends, by_ingresses, ingress_leads, list_any-flat_map}
 use Rattle.np_routes.proofs.TargetLemmas.{serves-outside, through-unserved}
 use Rattle.np_rules.proofs.PlacesLemmas.{list_any-next}
 use Rattle.np_rules.specs.Prelude.{PodEnd}
+use Rattle.np_base.proofs.Lists.{list_any-agrees}
 
 -- what is found passes
 find-passes : {X : Type 0} (test : X → Bool) (xs : List X) (x : X) → find test xs ≡ Some x → test x ≡ true
@@ -49,7 +50,7 @@ module _ (lists : EstateLists) (p : PodEnd) (number : ℕ) where
   pub routes-all : list_any (leads_to p number) (flat_map (λ placed. routes_of_ingress lists.services placed.ingress) lists.ingresses) ≡ list_any (leads_to p number) (routes_in lists p.namespace)
   routes-all =
       list_any-flat_map (leads_to p number) (λ placed. routes_of_ingress lists.services placed.ingress) lists.ingresses
-      ∙ list_any-same (λ placed. list_any (leads_to p number) (routes_of_ingress lists.services placed.ingress)) (ingress_leads lists p number) lists.ingresses ingress-outside
+      ∙ list_any-agrees (λ placed. list_any (leads_to p number) (routes_of_ingress lists.services placed.ingress)) (ingress_leads lists p number) ingress-outside lists.ingresses
       ∙ sym (by_ingresses lists p number)
 
 -- the routes of one ingress more

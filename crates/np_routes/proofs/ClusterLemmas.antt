@@ -1,22 +1,22 @@
 -- The rows of a cluster, and what they say. For `ingress_rows_say_what_passes`, `other_rows_stay` and crates above.
 use Rattle.std.proofs.Common.{◌≡◌, ◌≢◌, ◌<◌, ◌≤◌, ℕ, List, [], ◌∷◌, ◌++◌, Bool, true, false, ◌&&◌, Option, None, flat_map, length, append-nil, eq-eqb, arith, refl, sym, ap, subst, ◌∙◌, if◌then◌else◌}
 use Rattle.std.specs.Prelude.{filter}
-use Rattle.std.proofs.lemmas.Bool.{and_parts, eqb-true, false≢true, ne_eqb}
+use Rattle.std.proofs.lemmas.Bool.{and_parts, false≢true, ne_eqb}
 use Rattle.std.proofs.lemmas.List.{length-map}
 use Rattle.std.proofs.lemmas.List.Elements.{All-weaker, filter-append, filter_passes}
 use Rattle.std.proofs.Math.Bool.{or-false}
-use Rattle.np_routes.specs.Prelude.{ClusterTable, Controller, Egress, EstateLists, Family, Ingress, PortSpot, Row, RowEnd, RowKey, Sctp, Span, Tcp, Udp, Work, all_ingress_rows, cluster_rows, cluster_table, ingress_allows, ingress_key, ingress_reaches, ingress_row, is_controller, is_from_controller, is_ingress_controller, rows_from_controller, sender_of}
-use Rattle.np_base.specs.Ranges.{holds}
-use Rattle.np_base.specs.declared.range.Range.{Range}
-use Rattle.np_conns.specs.Prelude.{Conns, conns_of, has_spot, is_spot, ranges_of}
+use Rattle.np_routes.specs.Prelude.{ClusterTable, Controller, Egress, EstateLists, Family, Ingress, PortSpot, Row, RowEnd, RowKey, Span, Work, all_ingress_rows, cluster_rows, cluster_table, ingress_allows, ingress_key, ingress_reaches, ingress_row, is_controller, is_from_controller, is_ingress_controller, rows_from_controller, sender_of}
+use Rattle.np_conns.specs.Prelude.{Conns, conns_of, has_spot, is_spot}
 use Rattle.np_model.specs.Prelude.{IsLawful}
-use Rattle.np_fold.specs.Prelude.{Folding, Workload, folding_of, workload_number}
+use Rattle.np_fold.specs.Prelude.{folding_of, workload_number}
 use Rattle.np_model.specs.declared.direction.Direction.{Direction}
 use Rattle.np_routes.proofs.ReachedLemmas.{number-workload, reaches-allows}
-use Rattle.np_table.proofs.RowLemmas.{HasKey, filter-by, filter-flat_map, filter-map_none, pair_rows-key, range-none, range-only}
+use Rattle.np_table.proofs.RowLemmas.{HasKey, filter-by, filter-flat_map, filter-map_none, filter-swap, is_workload-end, pair_rows-key, range-none, range-only}
 use Rattle.np_conns.proofs.ConnLemmas.{conns_of-has}
-use Rattle.np_table.specs.Prelude.{Table, address_rows, all_address_rows, all_pair_rows, all_rows, allows_in, estate_table, has_no_range, is_between, is_nothing, is_of_address, is_workload, pair_key, pair_rows, row_if, row_of, rows_between, rows_of_address, rows_towards, table_of, workloads}
+use Rattle.np_table.specs.Prelude.{Table, address_rows, all_address_rows, all_pair_rows, all_rows, allows_in, estate_table, is_between, is_nothing, is_of_address, is_workload, pair_key, pair_rows, row_if, row_of, rows_between, rows_of_address, rows_towards, table_of, workloads}
 use Rattle.np_kinds.specs.Prelude.{IsWorkload, number_of_workloads}
+use Rattle.np_table.proofs.SaidLemmas.{has_spot-nothing, row_if-one}
+use Rattle.np_table.proofs.PlaceLemmas.{names-are}
 
 -- ---- a row from the controller
 
@@ -127,34 +127,12 @@ rows_from_controller-cluster cluster workload within =
 
 -- ---- what they say
 
-holds-none : (ranges : List (Range ℕ)) (port : ℕ) → has_no_range ranges ≡ true → holds (λ p. p) ranges port ≡ false
-holds-none [] port none = refl
-holds-none (range ∷ ranges) port none = absurd (false≢true none)
-
--- a set without ranges has no port
-pub has_spot-nothing : (conns : Conns) (spot : PortSpot) → is_nothing conns ≡ true → has_spot conns spot ≡ false
-has_spot-nothing conns spot nothing =
-    let both = and_parts (has_no_range conns.tcp && has_no_range conns.udp) (has_no_range conns.sctp) nothing in
-    let parts = and_parts (has_no_range conns.tcp) (has_no_range conns.udp) both.0 in
-    elim spot.proto as (λ proto. holds (λ p. p) (ranges_of conns proto) spot.port ≡ false) [
-      | Tcp ↦ holds-none conns.tcp spot.port parts.0
-      | Udp ↦ holds-none conns.udp spot.port parts.1
-      | Sctp ↦ holds-none conns.sctp spot.port both.1
-    ]
-
 row_if-says : (key : RowKey) (conns : Conns) (family : Family) (spot : PortSpot) → allows_in (row_if key None conns) family spot ≡ has_spot conns spot
 row_if-says key conns family spot = by (is_nothing conns) refl
   where
     by : (nothing : Bool) → is_nothing conns ≡ nothing → allows_in (if nothing then [] else record { key = key; family = None; conns = conns } ∷ []) family spot ≡ has_spot conns spot
     by true is = sym (has_spot-nothing conns spot is)
     by false is = or-false (has_spot conns spot)
-
-row_if-one : (key : RowKey) (conns : Conns) → length (row_if key None conns) ≤ 1
-row_if-one key conns = by (is_nothing conns)
-  where
-    by : (nothing : Bool) → length {A = Row} (if nothing then [] else record { key = key; family = None; conns = conns } ∷ []) ≤ 1
-    by true = omega arith
-    by false = omega arith
 
 ingress_row-says : (cluster : ClusterTable) (workload : ℕ) (family : Family) (spot : PortSpot) → is_spot spot ≡ true →
     allows_in (ingress_row cluster workload) family spot ≡ cluster.ingresses workload spot
@@ -163,7 +141,7 @@ ingress_row-says cluster workload family spot is = row_if-says (ingress_key work
 
 pub ingress_row-one : (cluster : ClusterTable) (workload : ℕ) → length (ingress_row cluster workload) ≤ 1
 unfolding ingress_row
-ingress_row-one cluster workload = row_if-one (ingress_key workload) (conns_of (cluster.ingresses workload))
+ingress_row-one cluster workload = row_if-one (ingress_key workload) None (conns_of (cluster.ingresses workload))
 
 -- the rows from the controller to a workload say what is reached of it
 pub allows_in-cluster : (cluster : ClusterTable) (workload : ℕ) (family : Family) (spot : PortSpot) → workload < length cluster.table.names → is_spot spot ≡ true →
@@ -178,13 +156,9 @@ rows_from_controller-one cluster workload within =
 
 -- ---- the cluster of an estate
 
-names-count : (lists : EstateLists) (folding : Folding) → length (table_of lists folding).names ≡ length folding.workloads
-unfolding table_of
-names-count lists folding = length-map folding.workloads (λ (one : Workload). one.name)
-
 pub cluster-names : (lists : EstateLists) (controller : Option ℕ) → length (cluster_table lists controller).table.names ≡ number_of_workloads lists
 unfolding cluster_table
-cluster-names lists controller = names-count lists (folding_of lists)
+cluster-names lists controller = names-are lists (folding_of lists)
 
 cluster-allows : (lists : EstateLists) (controller : Option ℕ) (workload : ℕ) (spot : PortSpot) →
     (cluster_table lists controller).ingresses workload spot ≡ ingress_allows lists (folding_of lists) controller workload spot
@@ -207,33 +181,17 @@ allows_in-pods lists controller p family spot lawful p_in other is =
 
 -- ---- rows of which a test of their ends keeps some
 
-filter-swap : (p q : Row → Bool) (rows : List Row) → filter p (filter q rows) ≡ filter q (filter p rows)
-filter-swap p q [] = refl
-filter-swap p q (row ∷ rows) = by (p row) (q row) refl refl (filter-swap p q rows)
-  where
-    by : (first second : Bool) → p row ≡ first → q row ≡ second → filter p (filter q rows) ≡ filter q (filter p rows) →
-        filter p (if second then row ∷ filter q rows else filter q rows) ≡ filter q (if first then row ∷ filter p rows else filter p rows)
-    by true true is is' rest = rw (is, is') (ap (λ (more : List Row). row ∷ more) rest)
-    by true false is is' rest = rw is' rest
-    by false true is is' rest = rw is rest
-    by false false is is' rest = rest
-
 pub controller-end : (end : RowEnd) → is_ingress_controller end ≡ true → end ≡ Controller
 controller-end Controller is = refl
 controller-end (Work other) is = absurd (false≢true is)
 controller-end (Span addresses) is = absurd (false≢true is)
-
-pub workload-end : (number : ℕ) (end : RowEnd) → is_workload number end ≡ true → end ≡ Work number
-workload-end number (Work other) is = ap (λ (n : ℕ). Work n) (eqb-true other number is)
-workload-end number (Span addresses) is = absurd (false≢true is)
-workload-end number Controller is = absurd (false≢true is)
 
 from_controller-key : (workload : ℕ) (row : Row) → is_from_controller workload row ≡ true → row.key ≡ ingress_key workload
 from_controller-key workload row is =
     let ends = and_parts (is_ingress_controller row.key.source) (is_workload workload row.key.destination) is in
     let from : RowEnd → RowKey = λ end. record { source = end; destination = row.key.destination } in
     let to : RowEnd → RowKey = λ end. record { source = Controller; destination = end } in
-    ap from (controller-end row.key.source ends.0) ∙ ap to (workload-end workload row.key.destination ends.1)
+    ap from (controller-end row.key.source ends.0) ∙ ap to (is_workload-end workload row.key.destination ends.1)
 
 -- it keeps all rows from the controller to a workload, or none
 pub rows_from_controller-kept : (workload : ℕ) (keep : RowKey → Bool) (rows : List Row) →

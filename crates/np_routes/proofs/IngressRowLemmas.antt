@@ -7,11 +7,12 @@ use Rattle.std.proofs.lemmas.Bool.{false_from_ne_true, true≢false}
 use Rattle.np_conns.specs.Prelude.{Conns, IsConns, conns_of, has_spot}
 use Rattle.np_routes.specs.Prelude.{ClusterTable, Egress, EstateLists, Ingress, PortSpot, Row, RowKey, all_ingress_rows, cluster_rows, cluster_table, ingress_allows, ingress_due, ingress_key, ingress_row, ingress_rows_from, ingress_steps}
 use Rattle.np_fold.specs.Prelude.{folding_of}
-use Rattle.np_routes.proofs.ClusterLemmas.{cluster-names, has_spot-nothing}
+use Rattle.np_routes.proofs.ClusterLemmas.{cluster-names}
 use Rattle.np_table.proofs.KindLemmas.{rules-most}
 use Rattle.np_table.proofs.SetLemmas.{row_if-none}
 use Rattle.np_table.specs.Prelude.{all_rows, estate_table, is_nothing, most_rules, row_if}
 use Rattle.np_kinds.specs.Prelude.{IsWorkload, number_of_workloads}
+use Rattle.np_table.proofs.SaidLemmas.{has_spot-nothing}
 
 -- ---- the rows from a workload on
 

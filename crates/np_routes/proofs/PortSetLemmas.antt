@@ -12,8 +12,9 @@ use Rattle.std.proofs.Math.Bool.{or-false}
 use Rattle.np_base.proofs.Bools.{or-last, or-leftwards, eq-swap}
 use Rattle.np_conns.specs.Prelude.{same_proto}
 use Rattle.np_routes.specs.Prelude.{Named, Number, PortName, PortSet, ServicePort, Tcp, at_pod, has_own, has_port, has_text, held_at, is_named_by, is_named_in, is_pod_port, is_same_port}
-use Rattle.np_routes.proofs.AnyLemmas.{bytes-swap, list_any-none, list_any-or, list_any-same, or-swap}
+use Rattle.np_routes.proofs.AnyLemmas.{bytes-swap, list_any-none, list_any-or, or-swap}
 use Rattle.np_rules.specs.Prelude.{PodEnd}
+use Rattle.np_base.proofs.Lists.{list_any-agrees}
 
 -- ---- what is added
 
@@ -115,8 +116,8 @@ at_pod-joined before other after p number is = held-or (has_port before) (has_po
 held-one : (named : PortName) (p : PodEnd) (number : ℕ) → held_at (is_same_port named) p number ≡ is_pod_port named p number
 held-one (Number own) p number = ap (λ (b : Bool). (own == number) || b) (list_any-none (is_named_in (is_same_port (Number own)) number) p.ports (λ port. refl)) ∙ or-false (own == number)
 held-one (Named name) p number =
-    list_any-same (is_named_in (is_same_port (Named name)) number) (λ port. bytes_eq port.name name && (same_proto Tcp port.proto && (number == port.number))) p.ports
-    (λ port. ap (λ (b : Bool). b && (same_proto Tcp port.proto && (number == port.number))) (bytes-swap name port.name))
+    list_any-agrees (is_named_in (is_same_port (Named name)) number) (λ port. bytes_eq port.name name && (same_proto Tcp port.proto && (number == port.number)))
+    (λ port. ap (λ (b : Bool). b && (same_proto Tcp port.proto && (number == port.number))) (bytes-swap name port.name)) p.ports
 
 pub at_pod-added : (before after : PortSet) (named : PortName) (p : PodEnd) (number : ℕ) → ((other : PortName) → has_port after other ≡ (has_port before other || is_same_port named other)) →
     at_pod after p number ≡ (at_pod before p number || is_pod_port named p number)

@@ -1,4 +1,4 @@
--- Where routes lead. For `ingresses_lead_as_the_api_says`.
+-- Where routes lead. For `ingresses_lead_as_the_api_says` and crates above.
 use Rattle.std.proofs.Common.{◌≡◌, ◌≢◌, ℕ, List, [], ◌∷◌, Bool, true, false, ◌&&◌, ◌||◌, Contains, Option, Some, None, map, flat_map, refl, sym, ap, ◌∙◌, if◌then◌else◌}
 use Rattle.std.specs.Prelude.{◌↔◌, filter}
 use Rattle.std.specs.Cmp.Lexicographic.{bytes_decides}
@@ -13,13 +13,13 @@ use Rattle.np_rules.specs.Prelude.{PodEnd}
 -- ---- lists of which some item passes
 
 -- an item that passes
-some_passes : {X : Type 0} (test : X → Bool) (xs : List X) → list_any test xs ≡ true → (x : X) × Contains xs x × (test x ≡ true)
+pub some_passes : {X : Type 0} (test : X → Bool) (xs : List X) → list_any test xs ≡ true → (x : X) × Contains xs x × (test x ≡ true)
 some_passes test xs any =
     let found = Any-from_list_any test xs any in
     (found.1, (found.0, found.2, found.3), found.4)
 
 -- makes the list pass
-passes_some : {X : Type 0} (test : X → Bool) (xs : List X) (x : X) → Contains xs x → test x ≡ true → list_any test xs ≡ true
+pub passes_some : {X : Type 0} (test : X → Bool) (xs : List X) (x : X) → Contains xs x → test x ≡ true → list_any test xs ≡ true
 passes_some test xs x has is = list_any-from_Any test xs (has.0, x, has.1, has.2, is)
 
 pub list_any-flat_map : {X Y : Type 0} (test : Y → Bool) (f : X → List Y) (xs : List X) → list_any test (flat_map f xs) ≡ list_any (λ x. list_any test (f x)) xs

@@ -1,6 +1,7 @@
 -- What passes at each address, as the one right list of ranges. For `conns_at` and `rows_by_addresses`.
-use Rattle.std.proofs.Common.{◌≡◌, ◌≤◌, ◌-◌, ◌^◌, ◌++◌, ℕ, List, Bool, true, false, ◌&&◌, map, lit≤, refl, ◌∙◌}
+use Rattle.std.proofs.Common.{◌≡◌, ◌≤◌, ◌-◌, ◌^◌, ◌++◌, ℕ, List, Bool, true, map, lit≤, refl, sym, ◌∙◌}
 use Rattle.std.proofs.lemmas.Bool.{and_from, le-leb}
+use Rattle.std.proofs.Math.Bool.{and-true}
 use Rattle.np_table.specs.Prelude.{Direction, Egress, EstateLists, Family, Four, Ingress, Piece, PortSpot, Six, address_row, four_of, rows_of_addresses, six_of, stretches_of, walk}
 use Rattle.np_base.specs.declared.beside.Beside.{Beside}
 use Rattle.np_base.specs.declared.beside.Which.TheVariants.{First, Second}
@@ -22,22 +23,18 @@ stretches_of-walk low high pieces passes ordered covers agrees =
 
 -- ---- the pod's side
 
-and_true : (b : Bool) → b ≡ (b && true)
-and_true true = refl
-and_true false = refl
-
 -- an address has no side of its own, so the pod's side says what passes
 side-four : (lists : EstateLists) (direction : Direction) (p : PodEnd) (n : ℕ) (spot : PortSpot) →
     side_allows lists direction p (address_contact direction (pod p) (First (record { point = n; spot = spot }))) ≡ with_address lists direction (pod p) Four n spot
 unfolding allows
 side-four lists Ingress p n spot = refl
-side-four lists Egress p n spot = and_true (side_allows lists Egress p (address_contact Egress (pod p) (First (record { point = n; spot = spot }))))
+side-four lists Egress p n spot = sym (and-true (side_allows lists Egress p (address_contact Egress (pod p) (First (record { point = n; spot = spot })))))
 
 side-six : (lists : EstateLists) (direction : Direction) (p : PodEnd) (n : ℕ) (spot : PortSpot) →
     side_allows lists direction p (address_contact direction (pod p) (Second (record { point = n; spot = spot }))) ≡ with_address lists direction (pod p) Six n spot
 unfolding allows
 side-six lists Ingress p n spot = refl
-side-six lists Egress p n spot = and_true (side_allows lists Egress p (address_contact Egress (pod p) (Second (record { point = n; spot = spot }))))
+side-six lists Egress p n spot = sym (and-true (side_allows lists Egress p (address_contact Egress (pod p) (Second (record { point = n; spot = spot })))))
 
 -- ---- all addresses of a family
 

@@ -4,6 +4,7 @@ use Rattle.std.specs.Prelude.{filter}
 use Rattle.std.proofs.lemmas.Bool.{and_left, and_parts, and_right, leb-true, ne_eqb}
 use Rattle.std.proofs.lemmas.List.Elements.{All-cons, All-filter, All-head, All-nil, All-same, All-weaker, filter-append, filter_passes}
 use Rattle.std.proofs.lemmas.List.Sums.{length-filter}
+use Rattle.std.proofs.Math.Bool.{and-true}
 use Rattle.np_table.specs.Prelude.{AddressRow, AreRight, Direction, Egress, EstateLists, Family, Four, Ingress, IsInFamily, OneRowSays, PortSpot, Row, RowKey, Six, Stretch, Table, address_row, address_rows, all_address_rows, all_pair_rows, all_rows, four_of, is_address, is_of_address, is_within, is_workload, pair_key, pair_rows, row_of, rows_of_address, rows_of_addresses, rows_towards, six_of, span_has, table_of, walk, workloads}
 use Rattle.np_conns.specs.Prelude.{Conns, conns_of, has_spot}
 use Rattle.np_model.specs.Prelude.{IsLawful}
@@ -86,15 +87,11 @@ one_has passes Six number within =
 
 -- ---- the rows of a workload and a direction among all rows
 
-and_true : (b : Bool) → (b && true) ≡ b
-and_true true = refl
-and_true false = refl
-
 -- a row of a workload and a direction is of the addresses of its span
 is_of_address-own : (workload : ℕ) (direction : Direction) (family : Family) (number : ℕ) (row : AddressRow) →
     is_of_address workload direction family number (row_of workload direction row) ≡ has_address family number row
 is_of_address-own workload Ingress family number row =
-    ap (λ (own : Bool). span_has row.span family number && own) (eq-eqb workload workload refl) ∙ and_true (span_has row.span family number)
+    ap (λ (own : Bool). span_has row.span family number && own) (eq-eqb workload workload refl) ∙ and-true (span_has row.span family number)
 is_of_address-own workload Egress family number row =
     ap (λ (own : Bool). own && span_has row.span family number) (eq-eqb workload workload refl)
 

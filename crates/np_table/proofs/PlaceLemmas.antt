@@ -1,4 +1,4 @@
--- The rows from place to place are all rows of a table. For `Rows::new`, `Rows::next` and 2 more.
+-- The rows from place to place are all rows of a table. For `Rows::new`, `Rows::next` and 3 more.
 use Rattle.std.proofs.Common.{◌≡◌, ℕ, zero, suc, ◌+◌, ◌-◌, ◌*◌, ◌/◌, ◌%◌, ◌<◌, ◌≤◌, List, [], ◌∷◌, ◌++◌, length, flat_map, reverse, Bool, true, false, nat_lt, refl, sym, ap, subst, ◌∙◌, arith, append_assoc, append-nil, if◌then◌else◌}
 use Rattle.std.specs.List.{range_with_len}
 use Rattle.std.proofs.lemmas.Bool.{lt-ltb, le-ltb}
@@ -147,7 +147,7 @@ module _ (table : Table) where
 
 -- ---- the table of an estate
 
-names-are : (lists : EstateLists) (folding : Folding) → length (table_of lists folding).names ≡ length folding.workloads
+pub names-are : (lists : EstateLists) (folding : Folding) → length (table_of lists folding).names ≡ length folding.workloads
 unfolding table_of
 names-are lists folding = length-map folding.workloads (λ one. one.name)
 

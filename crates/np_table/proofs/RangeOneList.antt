@@ -7,7 +7,7 @@ use Rattle.np_conns.proofs.ConnLemmas.{conns_of-agrees}
 use Rattle.np_table.proofs.RangeWalks.{walk-right}
 
 -- stretches do not end before they begin
-AreRight-ordered : (passes : ℕ → PortSpot → Bool) (from to : ℕ) (before : Option Conns) (stretches : List Stretch) → AreRight passes from to before stretches → from ≤ to
+pub AreRight-ordered : (passes : ℕ → PortSpot → Bool) (from to : ℕ) (before : Option Conns) (stretches : List Stretch) → AreRight passes from to before stretches → from ≤ to
 AreRight-ordered passes from to before [] are = omega arith
 AreRight-ordered passes from to before (stretch ∷ stretches) are =
     omega (arith, are.0.start, are.0.filled, AreRight-ordered passes (stretch.hi + 1) to (Some stretch.conns) stretches are.1)

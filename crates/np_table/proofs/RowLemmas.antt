@@ -19,7 +19,7 @@ filter-by test false (row ∷ rows) alike =
     rw (All-head (λ (one : Row). test one ≡ false) row rows alike) (filter-by test false rows (All-tail (λ (one : Row). test one ≡ false) row rows alike))
 
 -- two tests may be asked in either order
-filter-swap : (p q : Row → Bool) (rows : List Row) → filter p (filter q rows) ≡ filter q (filter p rows)
+pub filter-swap : (p q : Row → Bool) (rows : List Row) → filter p (filter q rows) ≡ filter q (filter p rows)
 filter-swap p q [] = refl
 filter-swap p q (row ∷ rows) = by (p row) (q row) refl refl (filter-swap p q rows)
   where
@@ -102,7 +102,7 @@ pair_rows-key table source destination = rows_in-key table.families (pair_key so
 
 -- ---- rows of which a test of their ends keeps some
 
-is_workload-end : (number : ℕ) (end : RowEnd) → is_workload number end ≡ true → end ≡ Work number
+pub is_workload-end : (number : ℕ) (end : RowEnd) → is_workload number end ≡ true → end ≡ Work number
 is_workload-end number (Work other) is = ap (λ (n : ℕ). Work n) (eqb-true other number is)
 is_workload-end number (Span addresses) is = absurd (false≢true is)
 is_workload-end number Controller is = absurd (false≢true is)

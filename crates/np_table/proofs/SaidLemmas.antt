@@ -2,21 +2,22 @@
 use Rattle.std.proofs.Common.{◌≡◌, ◌≢◌, ◌<◌, ◌≤◌, ◌==◌, ℕ, List, [], ◌∷◌, ◌++◌, Bool, true, false, ◌&&◌, ◌||◌, All, Contains, Option, None, Some, length, flat_map, append-nil, if◌then◌else◌, arith, refl, sym, ap, ◌∙◌, eq-eqb}
 use Rattle.std.specs.Prelude.{◌↔◌}
 use Rattle.std.proofs.lemmas.Bool.{and_from, and_parts, and_right, false≢true, ne_eqb}
-use Rattle.std.proofs.lemmas.List.{length-map}
 use Rattle.std.proofs.lemmas.List.Elements.{All-cons, All-contains, All-head, All-nil, All-same, All-tail, All-weaker, filter-append}
 use Rattle.std.proofs.lemmas.List.Folds.{list_any-append}
+use Rattle.std.proofs.Math.Bool.{or-false}
 use Rattle.np_table.specs.Prelude.{AllowSamePorts, Direction, Egress, EstateLists, Family, Four, Ingress, IsUnmarked, PortSpot, Proto, Range, Row, RowKey, Sctp, Six, Table, Tcp, Udp, address_rows, all_address_rows, all_pair_rows, all_rows, allows_in, has_no_range, is_between, is_nothing, is_workload, pair_key, pair_rows, row_if, row_of, rows_between, rows_in, rows_of_both, rows_towards, says, speaks_of, table_of, workloads}
 use Rattle.np_base.specs.Ranges.{holds}
 use Rattle.np_conns.proofs.RunLemmas.{runs-by_members}
 use Rattle.np_conns.specs.Prelude.{Conns, are_same_conns, conns_of, has_spot, is_spot, ranges_of, spans_of}
 use Rattle.np_model.specs.Prelude.{IsLawful, families_of}
 use Rattle.np_fold.proofs.WorkloadLemmas.{number-in_workloads}
-use Rattle.np_fold.specs.Prelude.{Folding, Workload, folding_of, members_of, workload_number}
+use Rattle.np_fold.specs.Prelude.{Folding, folding_of, members_of, workload_number}
 use Rattle.np_conns.proofs.ConnLemmas.{are_same_conns-Decides, conns_of-agrees, conns_of-has}
 use Rattle.np_kinds.proofs.PairLemmas.{between_pods-pair_allows, pair_allows-alone}
 use Rattle.np_table.proofs.RowLemmas.{HasKey, filter-by, filter-flat_map, filter-map_none, pair_rows-key, range-none, range-only}
 use Rattle.np_table.proofs.SetLemmas.{rows_of_both-same}
 use Rattle.np_kinds.specs.Prelude.{between_pods, pair_allows}
+use Rattle.np_table.proofs.PlaceLemmas.{names-are}
 
 -- ---- sets without ports
 
@@ -26,7 +27,7 @@ holds-none [] port none = refl
 holds-none (range ∷ ranges) port none = absurd (false≢true none)
 
 -- nor in a set without ranges of any protocol
-has_spot-nothing : (conns : Conns) (spot : PortSpot) → is_nothing conns ≡ true → has_spot conns spot ≡ false
+pub has_spot-nothing : (conns : Conns) (spot : PortSpot) → is_nothing conns ≡ true → has_spot conns spot ≡ false
 has_spot-nothing conns spot nothing =
     let both = and_parts (has_no_range conns.tcp && has_no_range conns.udp) (has_no_range conns.sctp) nothing in
     let parts = and_parts (has_no_range conns.tcp) (has_no_range conns.udp) both.0 in
@@ -63,10 +64,6 @@ rows_in-nothing (family ∷ next ∷ families) key conns nothing = rows_of_both-
 
 -- ---- what rows say
 
-or_false : (b : Bool) → (b || false) ≡ b
-or_false true = refl
-or_false false = refl
-
 -- a row says what its set has, in the families that its mark speaks of
 allows_in-row_if : (key : RowKey) (mark : Option Family) (conns : Conns) (family : Family) (spot : PortSpot) →
     allows_in (row_if key mark conns) family spot ≡ (speaks_of mark family && has_spot conns spot)
@@ -75,7 +72,7 @@ allows_in-row_if key mark conns family spot = by (is_nothing conns) refl
     by : (nothing : Bool) → is_nothing conns ≡ nothing →
         allows_in (if nothing then [] else record { key = key; family = mark; conns = conns } ∷ []) family spot ≡ (speaks_of mark family && has_spot conns spot)
     by true is = sym (and_right (speaks_of mark family) (has_spot conns spot) (has_spot-nothing conns spot is))
-    by false is = or_false (speaks_of mark family && has_spot conns spot)
+    by false is = or-false (speaks_of mark family && has_spot conns spot)
 
 -- the two rows of both families say in each what its set has
 allows_in-each : (key : RowKey) (conns : Family → Conns) (family : Family) (spot : PortSpot) →
@@ -87,7 +84,7 @@ allows_in-each key conns family spot =
     ∙ own family
   where
     own : (one : Family) → ((speaks_of (Some Four) one && has_spot (conns Four) spot) || (speaks_of (Some Six) one && has_spot (conns Six) spot)) ≡ has_spot (conns one) spot
-    own Four = or_false (has_spot (conns Four) spot)
+    own Four = or-false (has_spot (conns Four) spot)
     own Six = refl
 
 -- and so does one row where the sets are equal
@@ -173,7 +170,7 @@ row_if-unmarked key conns = by (is_nothing conns)
     by true = All-nil IsUnmarked
     by false = All-cons IsUnmarked (record { key = key; family = None; conns = conns }) [] refl (All-nil IsUnmarked)
 
-row_if-one : (key : RowKey) (mark : Option Family) (conns : Conns) → length (row_if key mark conns) ≤ 1
+pub row_if-one : (key : RowKey) (mark : Option Family) (conns : Conns) → length (row_if key mark conns) ≤ 1
 row_if-one key mark conns = by (is_nothing conns)
   where
     by : (nothing : Bool) → length {A = Row} (if nothing then [] else record { key = key; family = mark; conns = conns } ∷ []) ≤ 1
@@ -273,15 +270,10 @@ pair_rows-alone lists folding source one =
     let alone = and_from (source == source) (length (members_of folding source) == 1) (eq-eqb source source refl) (eq-eqb (length (members_of folding source)) 1 one) in
     pair_rows-nothing (table_of lists folding) source source (λ family spot. pair_allows-alone lists folding source source family spot alone)
 
--- a table has as many names as its folding has workloads
-names-count : (lists : EstateLists) (folding : Folding) → length (table_of lists folding).names ≡ length folding.workloads
-unfolding table_of
-names-count lists folding = length-map folding.workloads (λ (one : Workload). one.name)
-
 -- the number of a pod's workload is one of the table
 pub number-within : (lists : EstateLists) (place : ℕ) → place < length lists.pods → workload_number lists place < length (table_of lists (folding_of lists)).names
 unfolding folding_of
-number-within lists place within = rw (names-count lists (folding_of lists)) (number-in_workloads lists place within)
+number-within lists place within = rw (names-are lists (folding_of lists)) (number-in_workloads lists place within)
 
 -- the rows of a pair of an estate say what passes between its workloads
 allows_in-estate : (lists : EstateLists) (folding : Folding) (source destination : ℕ) (family : Family) (spot : PortSpot) → Contains (families_of lists.pods) family → is_spot spot ≡ true →

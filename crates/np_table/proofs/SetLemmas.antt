@@ -1,11 +1,12 @@
 -- Sets of connections, and the rows of them. For `Rows::next`, `add_row` and 7 more.
-use Rattle.std.proofs.Common.{◌≡◌, ◌≢◌, ℕ, List, [], ◌∷◌, ◌++◌, Bool, true, false, not, Option, None, Some, Result, Ok, Err, IfOk, OnErr, OnOk, length, get_or, arith, refl, sym, ◌∙◌, subst}
-use Rattle.std.proofs.lemmas.Bool.{and_from, both_ways, false_from_ne_true, or_left, true≢false}
+use Rattle.std.proofs.Common.{◌≡◌, ◌≢◌, ℕ, List, [], ◌∷◌, ◌++◌, true, false, not, Option, None, Some, Result, Ok, Err, IfOk, OnErr, OnOk, length, get_or, arith, refl, ◌∙◌, subst}
+use Rattle.std.proofs.lemmas.Bool.{and_from, both_ways, false_from_ne_true, or_left}
 use Rattle.np_table.specs.Prelude.{Family, Four, PortSpot, Range, RowKey, Sctp, Six, Tcp, Udp, has_no_range, is_nothing, row_if, rows_in, rows_of_both}
 use Rattle.np_base.proofs.Ranges.{is_within-inside}
 use Rattle.np_base.specs.Ranges.{holds, IsAscending}
 use Rattle.np_conns.specs.Prelude.{Conns, IsConns, are_same_conns, has_spot}
 use Rattle.np_conns.proofs.ConnLemmas.{are_same_conns-Decides}
+use Rattle.np_base.proofs.Bools.{not_itself}
 
 -- ---- rows
 
@@ -25,10 +26,6 @@ no_proto conns well none =
 -- there is no row of an empty set
 pub row_if-none : (key : RowKey) (family : Option Family) (conns : Conns) → IsConns conns → ((spot : PortSpot) → has_spot conns spot ≡ false) → row_if key family conns ≡ []
 row_if-none key family conns well none = rw (no_proto conns well none) refl
-
-not_itself : (b : Bool) → b ≡ not b → ⊥
-not_itself true same = true≢false same
-not_itself false same = true≢false (sym same)
 
 -- one row where the sets of both families are equal
 pub rows_of_both-same : (key : RowKey) (four six : Conns) → four ≡ six → rows_of_both key four six ≡ row_if key None four

@@ -6,7 +6,7 @@ use Rattle.np_tiers.proofs.Verdicts.{whole_stands}
 use Rattle.np_model.specs.Prelude.{IsLawful}
 use Rattle.np_unused.specs.Prelude.{AdminPolicy, AdminRule, BasePolicy, Decider, Direction, EstateLists, NetPolicy, NetRule, RuleName, RuleRef, Tier, admin_count, admin_rule_in, admin_without, base_rule_in, base_without, goes, net_count, net_rule_in, net_without, ref_of, rule_count_at, rule_in, rule_name, without}
 use Rattle.np_explain.proofs.RuleLemmas.{net_decider_is_first}
-use Rattle.np_unused.proofs.StayLemmas.{any_found, any_map, find_map, first_stays, found_is}
+use Rattle.np_unused.proofs.StayLemmas.{any_found, any_map, find_map, first_stays}
 use Rattle.np_unused.proofs.WithoutLemmas.{IsAdminAt, IsBaseAt, IsNetAt, admin_are, admin_from, admin_left, admin_placed, admin_stays, ascending_left, base_are, base_from, base_left, base_placed, base_stays, isolated_left, net_are, net_from, net_left, net_placed, net_stays, spaced}
 use Rattle.np_unused.specs.declared.rule_ref.Tier.TheVariants as tier
 use Rattle.np_model.specs.declared.admin_policy.Action.{Action}
@@ -14,6 +14,7 @@ use Rattle.np_model.specs.declared.admin_policy.Action.TheVariants.{Allow, Deny,
 use Rattle.np_rules.proofs.AdminTierLemmas.{decider_is_first}
 use Rattle.np_rules.proofs.PairwiseLemmas.{map-map}
 use Rattle.np_rules.specs.Prelude.{Contact, PlacedAdminRule, PlacedBaseRule, PlacedNetRule, PodEnd, action_decides, action_says, admin_decider, admin_decides, admin_places, admin_rule_matches, admin_rule_name, admin_says, base_decider, base_decides, base_places, base_says, decider, is_allow, is_isolated, isolating_names, lower_allows, lower_decider, net_decider, net_decides, net_places, net_policy_name, net_rule_matches, net_rule_name, permits, placed_net_matches, pod, side_allows}
+use Rattle.np_explain.proofs.NamedLemmas.{of_found}
 
 -- ---- what rules say
 
@@ -106,7 +107,7 @@ module _ (lists : EstateLists) (lawful : IsLawful lists) (gone : List RuleRef) (
   admin_first_stays : Stays → (x : ℕ × PlacedAdminRule) → find admin_test admins ≡ Some x → admin_stays gone direction p x ≡ true
   unfolding Stays
   admin_first_stays stays x found =
-      let at = found_is (IsAdminAt gone direction p lists.admin_policies) admin_test admins
+      let at = of_found (IsAdminAt gone direction p lists.admin_policies) admin_test admins
       (admin_are gone direction p lists.admin_policies 0 lists.admin_policies (whole_stands lists.admin_policies)) x found in
       let count : Option AdminPolicy → ℕ = λ one. option_map_or (admin_count direction) one 0 in
       let valid : x.1.place < rule_count_at lists tier.Admin direction x.0 = subst (λ (n : ℕ). x.1.place < n) (sym (ap count at.0)) at.1 in
@@ -160,7 +161,7 @@ module _ (lists : EstateLists) (lawful : IsLawful lists) (gone : List RuleRef) (
       (x : ℕ × PlacedNetRule) → find net_test nets ≡ Some x → net_stays gone direction p x ≡ true
   unfolding Stays
   net_first_stays stays pass lower isolated x found =
-      let at = found_is (IsNetAt gone direction p lists.net_policies) net_test nets (net_are gone direction p lists.net_policies 0 lists.net_policies (whole_stands lists.net_policies)) x found in
+      let at = of_found (IsNetAt gone direction p lists.net_policies) net_test nets (net_are gone direction p lists.net_policies 0 lists.net_policies (whole_stands lists.net_policies)) x found in
       let count : Option NetPolicy → ℕ = λ one. option_map_or (net_count direction) one 0 in
       let valid : x.1.place < rule_count_at lists tier.Net direction x.0 = subst (λ (n : ℕ). x.1.place < n) (sym (ap count at.0)) at.1 in
       let decides : net_decider lists.net_policies direction p contact ≡ Some x.1 = net_found ∙ ap (option_map (λ y. y.1)) found in
@@ -202,7 +203,7 @@ module _ (lists : EstateLists) (lawful : IsLawful lists) (gone : List RuleRef) (
       (x : ℕ × PlacedBaseRule) → find base_test bases ≡ Some x → base_stays gone direction p x ≡ true
   unfolding Stays
   base_first_stays stays pass lower free x found =
-      let at = found_is (IsBaseAt gone direction p lists.baseline) base_test bases (base_are gone direction p lists.baseline) x found in
+      let at = of_found (IsBaseAt gone direction p lists.baseline) base_test bases (base_are gone direction p lists.baseline) x found in
       let valid : x.1.place < rule_count_at lists tier.Base direction x.0 = subst (λ (n : ℕ). x.1.place < rule_count_at lists tier.Base direction n) (sym at.0) at.1 in
       let decides : base_decider lists.baseline direction p contact ≡ Some x.1 = base_found ∙ ap (option_map (λ y. y.1)) found in
       let by : Bool → Decider = λ b. if b then net_decides pass (isolating_names lists.net_policies direction p) (net_decider lists.net_policies direction p contact) else base_decides pass

@@ -5,6 +5,7 @@ use Rattle.std.specs.Option.{option_map_or}
 use Rattle.std.specs.declared.alloc.Global.{Global}
 use Rattle.std.proofs.lemmas.Bool.Decides.{eqb_tells}
 use Rattle.std.proofs.lemmas.Option.{slice_get_read}
+use Rattle.std.proofs.Math.Bool.{or-false}
 use Rattle.np_unused.specs.Prelude.{flag_in, flag_of}
 
 -- a flag that is not set changes nothing
@@ -20,10 +21,6 @@ flag_in-push [] row empty zero n = ap (λ (flags : List Bool). flag_of flags n) 
 flag_in-push [] row empty (suc p) n = refl
 flag_in-push (one ∷ rows) row empty zero n = refl
 flag_in-push (one ∷ rows) row empty (suc p) n = flag_in-push rows row empty p n
-
-or_false : (b : Bool) → b ≡ (b || false)
-or_false true = refl
-or_false false = refl
 
 -- ---- one flag is set
 
@@ -52,4 +49,4 @@ flag_in-set rows policy place old row within is sets p n =
         rw (test, same) (ap read (get-set_same rows policy row within) ∙ sets n ∙ ap (λ (b : Bool). b || n == place) (sym (ap read (slice_get_read rows (length rows) policy old refl within is))))
 
     there : p == policy ≡ false → p ≢ policy → flag_in (set rows policy row) p n ≡ (flag_in rows p n || (p == policy && n == place))
-    there test other = rw test (ap read (get-set_other rows policy p row other) ∙ or_false (flag_in rows p n))
+    there test other = rw test (ap read (get-set_other rows policy p row other) ∙ sym (or-false (flag_in rows p n)))

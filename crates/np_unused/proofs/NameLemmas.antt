@@ -11,11 +11,12 @@ use Rattle.np_model.specs.Prelude.{IsLawful}
 use Rattle.np_unused.specs.Prelude.{AdminPolicy, AreRulesOf, Decider, Direction, EstateLists, LayerRules, Mark, NetPolicy, RuleId, RuleName, Tier, admin_count, admin_rule_in, base_count, base_rule_in, ids_of, is_id, is_met, net_count, net_rule_in, place_in, policy_name_at, rule_count_at, rule_in}
 use Rattle.np_explain.proofs.PlaceLemmas.{at_place}
 use Rattle.np_explain.specs.Prelude.{IsMarkOf, admin_rules, base_rules, mark_decider, net_rules, pass_name, same_rule}
-use Rattle.np_unused.proofs.PolicyLemmas.{one_admin_policy, one_net_policy}
+use Rattle.np_unused.proofs.PolicyLemmas.{one_admin_policy, one_net_policy, passes_at}
 use Rattle.np_unused.specs.declared.rule_ref.Tier.TheVariants as tier
 use Rattle.np_rules.specs.Prelude.{NamesAdmin, NamesBase, NamesNet, Pairwise, PlacedAdminRule, PlacedBaseRule, PlacedNetRule, PodSide, admin_rule_name, base_rule_name, is_allow, net_policy_name, net_rule_name}
 use Rattle.np_rules.specs.declared.decider.Decider.TheVariants as decider
 use Rattle.np_tiers.specs.declared.mark.Mark.TheVariants as mark
+use Rattle.np_base.proofs.Options.{some_is}
 
 -- ---- names at places
 
@@ -98,9 +99,6 @@ module _ (side : PodSide) where
   mark_rule tier.Base (mark.Free pass) there = refl
 
 -- ---- numbers and names of one rule
-
-some_is : {X : Type 0} (a b : X) → Some a ≡ Some b → a ≡ b
-some_is a b same = cc
 
 module _ (lists : EstateLists) (lawful : IsLawful lists) (direction : Direction) (policy place : ℕ) where
   -- the name of the rule at the place
@@ -196,11 +194,6 @@ module _ (side : PodSide) (lawful : IsLawful side.lists) (rules : LayerRules) (a
 
 -- ---- all rules of a list are flagged
 
-all_at : {X : Type 0} (test : X → Bool) (xs : List X) (k : ℕ) (x : X) → list_all test xs ≡ true → slice_get xs k ≡ Some x → test x ≡ true
-all_at test [] k x all at = cc
-all_at test (y ∷ xs) zero x all at = let same : y ≡ x = cc in ap test (sym same) ∙ (and_parts _ _ all).0
-all_at test (y ∷ xs) (suc k) x all at = all_at test xs k x (and_parts (test y) (list_all test xs) all).1 at
-
 pub met_flagged : (flag : ℕ → ℕ → Bool) (ids : List RuleId) (met : Option ℕ) (policy place : ℕ) → list_all (λ id. flag id.policy id.place) ids ≡ true → is_met ids met policy place ≡ true →
     flag policy place ≡ true
 met_flagged flag ids None policy place all is = absurd (false≢true is)
@@ -210,4 +203,4 @@ met_flagged flag ids (Some k) policy place all is = go (slice_get ids k) refl is
     go None at same = absurd (false≢true same)
     go (Some id) at same =
         let parts = and_parts (policy == id.policy) (place == id.place) same in
-        ap (λ (n : ℕ). flag n place) (eqb-true policy id.policy parts.0) ∙ ap (flag id.policy) (eqb-true place id.place parts.1) ∙ all_at (λ other. flag other.policy other.place) ids k id all at
+        ap (λ (n : ℕ). flag n place) (eqb-true policy id.policy parts.0) ∙ ap (flag id.policy) (eqb-true place id.place parts.1) ∙ passes_at (λ other. flag other.policy other.place) ids k id all at

@@ -4,14 +4,9 @@ use Rattle.std.specs.List.{list_all, list_any}
 use Rattle.std.specs.Option.{option_or}
 use Rattle.std.proofs.lemmas.Bool.{and_from, and_parts, false≢true, or_cases, or_left, or_right}
 use Rattle.std.proofs.lemmas.Bool.Decides.{eqb_tells}
+use Rattle.std.proofs.Math.Bool.{or-false}
 use Rattle.np_unused.proofs.FirstLemmas.{any-first_rule, first_rule-append}
 use Rattle.np_unused.specs.Prelude.{AdminPart, Flags, Notes, RuleId, RuleSpots, first_rule, flag_at, hands_down, names}
-
--- ---- tests
-
-or_none : (b : Bool) → b ≡ (b || false)
-or_none true = refl
-or_none false = refl
 
 -- ---- nothing, and one thing after another
 
@@ -123,7 +118,7 @@ by_first : (left matched : Bool) (first second : Option RuleId) (policy place : 
     (left && names (option_or first second) policy place) ≡ (((left && matched) && names first policy place) || ((left && not matched) && names second policy place))
 by_first false matched first second policy place is = refl
 by_first true matched None second policy place is = rw is refl
-by_first true matched (Some id) second policy place is = rw is (or_none (names (Some id) policy place))
+by_first true matched (Some id) second policy place is = rw is (sym (or-false (names (Some id) policy place)))
 
 module _ {S Spot : Type 0} (has : S → Spot → Bool) (left : Spot → Bool) (rules : List (RuleSpots S)) where
   pub none_left : (flags : Flags) → ((spot : Spot) → left spot ≡ false) → Notes (firsts_test has left rules) flags flags

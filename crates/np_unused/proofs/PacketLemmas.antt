@@ -1,7 +1,7 @@
 -- Used rules stand in what decides a packet between listed ends. For AllowLemmas, FindLemmas and LawLemmas.
-use Rattle.std.proofs.Common.{◌≡◌, ℕ, ◌<◌, ◌^◌, List, ◌++◌, Bool, true, false, ◌==◌, not, map, length, All, refl, sym, ap, ◌∙◌, arith}
+use Rattle.std.proofs.Common.{◌≡◌, ℕ, ◌<◌, ◌^◌, List, ◌++◌, Bool, true, false, ◌==◌, not, map, length, All, refl, ap, ◌∙◌, arith}
 use Rattle.std.specs.List.{Contains, list_any, range_with_len}
-use Rattle.std.proofs.lemmas.Bool.{and_from, and_parts, false≢true, not-true}
+use Rattle.std.proofs.lemmas.Bool.{and_from, and_parts, false≢true, not-true, not_from_false}
 use Rattle.std.proofs.lemmas.Bool.Decides.{nat_tests}
 use Rattle.std.proofs.lemmas.List.Elements.{All-append, All-contains, Contains-append_left, Contains-append_right}
 use Rattle.std.proofs.lemmas.List.Folds.{Any-from_list_any, list_any_at}
@@ -100,10 +100,6 @@ used_by lists rule used =
       stands = at.2;
     }
 
-not_false : (b : Bool) → b ≡ false → not b ≡ true
-not_false true is = absurd (false≢true (sym is))
-not_false false is = refl
-
 pub is_used_by : (lists : EstateLists) (rule : RuleRef) (source destination : End) (family : Family) (spot : PortSpot) → IsListedPacket lists source destination family spot →
     stands_in lists rule (decider_between lists rule.direction source destination family spot) ≡ true → is_used lists rule ≡ true
 unfolding is_used
@@ -111,7 +107,7 @@ is_used_by lists rule source destination family spot listed stands =
     let ends = listed_ends lists in
     any_of (λ s. list_any (is_used_between lists rule s) ends) ends source (listed_is_end lists source listed.source)
     (any_of (is_used_between lists rule source) ends destination (listed_is_end lists destination listed.destination)
-    (and_from (not (are_one_pod source destination)) _ (not_false (are_one_pod source destination) listed.apart)
+    (and_from (not (are_one_pod source destination)) _ (not_from_false (are_one_pod source destination) listed.apart)
     (any_of (is_used_in lists rule source destination) (packet_families lists source destination) family listed.of_family
     (any_of (λ at. stands_in lists rule (decider_between lists rule.direction source destination family at)) all_spots spot (all_spots-has spot listed.at_spot) stands))))
 

@@ -1,30 +1,15 @@
 -- Rules are told by the names of their policies and their places. For NameLemmas.
-use Rattle.std.proofs.Common.{◌≡◌, ◌≢◌, ℕ, zero, suc, ◌<◌, List, [], ◌∷◌, ◌++◌, Bool, true, false, not, ◌==◌, get_or, Some, AllPairs, Ordering, Equal, append_assoc, eq-eqb, refl, sym, ◌∙◌, ap, inl, inr}
+use Rattle.std.proofs.Common.{◌≡◌, ◌≢◌, ℕ, zero, suc, List, [], ◌∷◌, ◌++◌, Bool, true, false, not, ◌==◌, get_or, Some, AllPairs, Ordering, Equal, append_assoc, eq-eqb, refl, sym, ◌∙◌, ap}
 use Rattle.std.specs.Cmp.Lexicographic.{slice_cmp}
 use Rattle.std.specs.List.{list_all, list_any, slice_get}
 use Rattle.std.specs.Ordering.{nat_cmp}
-use Rattle.std.proofs.lemmas.Bool.{and_parts, cases_order, false≢true, not-true, or_parts, true≢false}
+use Rattle.std.proofs.lemmas.Bool.{and_parts, false≢true, not-true, or_parts, true≢false}
 use Rattle.std.proofs.lemmas.Cmp.{nat_list_cmp_total, tied_itself}
-use Rattle.std.proofs.lemmas.Option.{get_or_from_slice_get, slice_get_within}
 use Rattle.std.proofs.lemmas.Slice.Eq.{bytes_eq-Decides}
 use Rattle.np_model.specs.Prelude.{AreNamesApart, IsLawful, PolicyStandsBefore, decides_before, is_name, is_well, is_well_net_policy}
 use Rattle.np_unused.specs.Prelude.{AdminPolicy, EstateLists, NetPolicy}
 use Rattle.np_rules.specs.Prelude.{net_policy_name}
-
--- two places of items that pairwise differ are one where the items' names are
-one_place : {X N : Type 0} (name : X → N) (xs : List X) → AllPairs (λ x y. name x ≢ name y) xs → (p q : ℕ) (x y : X) → slice_get xs p ≡ Some x → slice_get xs q ≡ Some y → name x ≡ name y → p ≡ q
-one_place {X} {N} name xs apart p q x y at_p at_q same =
-    elim (cases_order p q) [
-      | inl equal ↦ equal
-      | inr others ↦ elim others [
-        | inl before ↦ absurd (pair p q x y before at_p at_q same)
-        | inr after ↦ absurd (pair q p y x after at_q at_p (sym same))
-      ]
-    ]
-  where
-    pair : (i j : ℕ) (a b : X) → i < j → slice_get xs i ≡ Some a → slice_get xs j ≡ Some b → name a ≡ name b → ⊥
-    pair i j a b before at_i at_j equal = apart i j a before (slice_get_within xs j b at_j)
-        (ap name (get_or_from_slice_get xs i a a at_i) ∙ equal ∙ ap name (sym (get_or_from_slice_get xs j b a at_j)))
+use Rattle.np_explain.proofs.PlaceLemmas.{place_told}
 
 -- ---- admin policies
 
@@ -34,7 +19,7 @@ admin_names_differ policies apart = λ i j d before within same.
 
 pub one_admin_policy : (lists : EstateLists) → IsLawful lists → (p q : ℕ) (a b : AdminPolicy) → slice_get lists.admin_policies p ≡ Some a → slice_get lists.admin_policies q ≡ Some b →
     a.name ≡ b.name → p ≡ q
-one_admin_policy lists lawful = one_place (λ policy. policy.name) lists.admin_policies (admin_names_differ lists.admin_policies lawful.admin_policies_apart)
+one_admin_policy lists lawful = place_told (λ policy. policy.name) lists.admin_policies (admin_names_differ lists.admin_policies lawful.admin_policies_apart)
 
 -- ---- NetworkPolicies
 
@@ -64,7 +49,7 @@ lacks_slash text name = not-true _ (and_parts _ _ name).1
 spelled : (policy : NetPolicy) → net_policy_name policy ≡ policy.namespace ++ 47 ∷ policy.name
 spelled policy = simp append_assoc
 
-passes_at : {X : Type 0} (test : X → Bool) (xs : List X) (k : ℕ) (x : X) → list_all test xs ≡ true → slice_get xs k ≡ Some x → test x ≡ true
+pub passes_at : {X : Type 0} (test : X → Bool) (xs : List X) (k : ℕ) (x : X) → list_all test xs ≡ true → slice_get xs k ≡ Some x → test x ≡ true
 passes_at test [] k x all at = cc
 passes_at test (y ∷ xs) zero x all at = let same : y ≡ x = cc in ap test (sym same) ∙ (and_parts _ _ all).0
 passes_at test (y ∷ xs) (suc k) x all at = passes_at test xs k x (and_parts (test y) (list_all test xs) all).1 at
@@ -94,5 +79,5 @@ one_net_policy lists lawful p q a b at_p at_q same =
     let name_a = lacks_slash a.namespace (namespace_is_name a (passes_at is_well_net_policy lists.net_policies p a well at_p)) in
     let name_b = lacks_slash b.namespace (namespace_is_name b (passes_at is_well_net_policy lists.net_policies q b well at_q)) in
     let parts = cut 47 a.namespace b.namespace a.name b.name name_a name_b (sym (spelled a) ∙ same ∙ spelled b) in
-    one_place full_name lists.net_policies (λ i j d before within. not_before (get_or lists.net_policies i d) (get_or lists.net_policies j d) (lawful.net_policies_ascend i j d before within)) p q a b
+    place_told full_name lists.net_policies (λ i j d before within. not_before (get_or lists.net_policies i d) (get_or lists.net_policies j d) (lawful.net_policies_ascend i j d before within)) p q a b
     at_p at_q (rw (parts.0, parts.1) refl)

@@ -3,7 +3,7 @@
 use Rattle.std.proofs.Common.{◌≡◌, ℕ, ◌<◌, List, [], ◌∷◌, Bool, true, false, ◌&&◌, ◌||◌, not, filter, length, slice_get, Option, Some, None, refl, sym, ap, ◌∙◌, subst, arith, if◌then◌else◌}
 use Rattle.std.specs.List.{list_any}
 use Rattle.std.specs.Option.{option_map, option_map_or}
-use Rattle.std.proofs.lemmas.Bool.{false≢true, or_parts}
+use Rattle.std.proofs.lemmas.Bool.{false≢true, not-false, or_parts}
 use Rattle.std.proofs.lemmas.Option.{slice_get-get_or, slice_get-map, slice_get_within}
 use Rattle.np_unused.specs.Prelude.{AreKindPods, AreKinds, AreRulesOf, Decider, Direction, EstateLists, Family, IsSearch, IsSearchOf, KindPod, Kinds, Knows, KnowsAll, KnowsKind, KnowsSide, LayerRules, RuleName, Search, Searched, UsedRules, are_known, base_rule_in, is_asked, may_tell, net_rule_in, ref_of, rule_name}
 use Rattle.np_conns.specs.Prelude.{is_spot}
@@ -73,10 +73,6 @@ quiet_known side lawful rules are used all far family out spot inside tier.Base 
     absurd (false≢true (sym (ap (λ (found : Option RuleName). option_map_or (same_rule (rule_name side.lists (ref_of side.direction tier.Base policy place))) found false)
     (no_rule side.lists side.direction (near_pod side) (with_pod far family side spot) out base_rule_in (λ rule allow. refl) (λ pass names. refl))) ∙ stands))
 
-not_false : (b : Bool) → not b ≡ false → b ≡ true
-not_false true is = refl
-not_false false is = sym is
-
 -- a kind that tells of nothing may be passed over
 pub quiet_kind : (search : Search) → IsSearch search → (used : UsedRules) (kind : ℕ) (far : KindPod) → slice_get search.kinds.pods.now kind ≡ Some far → may_tell search used kind far ≡ false →
     is_asked search.near kind far ≡ true → (family : Family) → KnowsAll is_spot search.side.now (with_pod far.pod family) used
@@ -84,7 +80,7 @@ quiet_kind search is used kind far at silent asked family =
     let reaches = may_at search.kinds.reach.now search.near kind in
     let known = are_known used.admin search.rules.now.admin in
     let parts = or_parts reaches (not known) (ap (λ (b : Bool). b && (reaches || not known)) (sym asked) ∙ silent) in
-    quiet_known search.side.now is.lawful search.rules.now is.rules used (not_false known parts.1) far.pod family (sym (is.reach kind far at) ∙ parts.0)
+    quiet_known search.side.now is.lawful search.rules.now is.rules used (not-false known parts.1) far.pod family (sym (is.reach kind far at) ∙ parts.0)
 
 -- ---- what the first pods of the kinds may let through
 

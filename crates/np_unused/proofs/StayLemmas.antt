@@ -1,9 +1,8 @@
 -- What is found in a list of which items are taken out. For ChangeLemmas.
-use Rattle.std.proofs.Common.{◌≡◌, List, [], ◌∷◌, Bool, true, false, ◌||◌, map, filter, find, is_some, Option, Some, All, refl, sym, subst, ap, ◌∙◌, if◌then◌else◌}
+use Rattle.std.proofs.Common.{◌≡◌, List, [], ◌∷◌, Bool, true, false, ◌||◌, map, filter, find, is_some, Option, Some, refl, sym, ap, ◌∙◌, if◌then◌else◌}
 use Rattle.std.specs.List.{list_any}
 use Rattle.std.specs.Option.{option_map}
 use Rattle.std.proofs.lemmas.Bool.{false≢true}
-use Rattle.std.proofs.lemmas.List.Elements.{All-head, All-tail}
 
 -- the first item that passes is still found where it stays
 pub first_stays : {X : Type 0} (test keep : X → Bool) (xs : List X) → ((x : X) → find test xs ≡ Some x → keep x ≡ true) → find test (filter keep xs) ≡ find test xs
@@ -50,12 +49,3 @@ any_found {X} test (x ∷ xs) = go (test x) (any_found test xs)
     go : (b : Bool) → list_any test xs ≡ is_some (find test xs) → (b || list_any test xs) ≡ is_some (if b then Some x else find test xs)
     go true rest = refl
     go false rest = rest
-
--- what holds of each item holds of the one that is found
-pub found_is : {X : Type 0} (P : X → Type 0) (test : X → Bool) (xs : List X) → All P xs → (x : X) → find test xs ≡ Some x → P x
-found_is P test [] all x found = cc
-found_is {X} P test (y ∷ xs) all x found = go (test y) found (found_is P test xs (All-tail P y xs all) x)
-  where
-    go : (b : Bool) → (if b then Some y else find test xs) ≡ Some x → (find test xs ≡ Some x → P x) → P x
-    go true is later = let same : y ≡ x = cc in subst P same (All-head P y xs all)
-    go false is later = later is

@@ -9,6 +9,8 @@ use Rattle.np_model.specs.Prelude.{HasAscendingPriorities, ascends}
 use Rattle.np_unused.specs.Prelude.{Admin, AdminPolicy, AdminRule, Base, BasePolicy, Direction, Egress, Ingress, Net, NetPolicy, NetRule, RuleRef, admin_count, admin_without, base_count, base_without, goes, net_count, net_without, without_places}
 use Rattle.np_rules.proofs.PlacesLemmas.{map-numbered}
 use Rattle.np_rules.specs.Prelude.{PlacedAdminRule, PlacedBaseRule, PlacedNetRule, PodEnd, admin_places, admin_places_of, admin_rules_of, base_places, base_rules_of, is_isolated, isolates, net_places, net_places_of, net_rules_of, net_selects, subject_selects}
+use Rattle.np_rules.proofs.PolicyRulesLemmas.{placed_admin}
+use Rattle.np_explain.proofs.NamedLemmas.{net_made}
 
 -- ---- any kind of placed rules
 
@@ -49,9 +51,6 @@ numbered_in {X} {Y} P number make items each = go 0 items (λ e below. each e (o
     go n (x ∷ xs) all = All-cons P (number, make (n, x)) (map (beside number) (map make (enumerate_from (n + 1) xs))) (all (n, x) (omega arith)) (go (n + 1) xs (λ e below. all e (omega arith)))
 
 -- ---- admin policies
-
-abbrev admin_place_at : AdminPolicy → ℕ × AdminRule → PlacedAdminRule
-admin_place_at policy e = record { policy = policy; place = e.0; rule = e.1 }
 
 module _ (rules : List RuleRef) (direction : Direction) (p : PodEnd) where
   -- the rules of a policy that speak of the pod, with the policy's number
@@ -102,10 +101,10 @@ module _ (rules : List RuleRef) (direction : Direction) (p : PodEnd) where
           map (λ placed. placed.rule) (if b then admin_places_of direction (admin_without rules (n, policy)) else []) ≡ map (λ x. x.1.rule)
           (filter admin_stays (if b then map (beside n) (admin_places_of direction policy) else []))
       one true =
-          map-numbered (admin_place_at (admin_without rules (n, policy))) (λ placed. placed.rule) (λ e. refl) 0 (admin_rules_of direction (admin_without rules (n, policy)))
+          map-numbered (placed_admin (admin_without rules (n, policy))) (λ placed. placed.rule) (λ e. refl) 0 (admin_rules_of direction (admin_without rules (n, policy)))
           ∙ admin_rules_left n policy
           ∙ sym (same_rule_of (without_places (goes rules Admin n direction) (admin_rules_of direction policy)))
-          ∙ stay_in_one (admin_place_at policy) (λ placed. placed.rule) (λ rule. rule) n admin_stays (goes rules Admin n direction) (λ e. refl) (λ e. refl) (admin_rules_of direction policy)
+          ∙ stay_in_one (placed_admin policy) (λ placed. placed.rule) (λ rule. rule) n admin_stays (goes rules Admin n direction) (λ e. refl) (λ e. refl) (admin_rules_of direction policy)
       one false = refl
 
   -- the priorities stay
@@ -133,9 +132,6 @@ module _ (rules : List RuleRef) (direction : Direction) (p : PodEnd) where
 
 -- ---- NetworkPolicies
 
-abbrev net_place_at : NetPolicy → ℕ × NetRule → PlacedNetRule
-net_place_at policy e = record { policy = policy; place = e.0; rule = e.1 }
-
 -- a rule with its policy's namespace
 abbrev pub spaced : PlacedNetRule → List ℕ × NetRule
 spaced placed = (placed.policy.namespace, placed.rule)
@@ -143,7 +139,7 @@ spaced placed = (placed.policy.namespace, placed.rule)
 abbrev in_space : List ℕ → NetRule → List ℕ × NetRule
 in_space namespace rule = (namespace, rule)
 
-spaced_numbered : (policy : NetPolicy) (m : ℕ) (xs : List NetRule) → map spaced (map (net_place_at policy) (enumerate_from m xs)) ≡ map (in_space policy.namespace) xs
+spaced_numbered : (policy : NetPolicy) (m : ℕ) (xs : List NetRule) → map spaced (map (net_made policy) (enumerate_from m xs)) ≡ map (in_space policy.namespace) xs
 spaced_numbered policy m [] = refl
 spaced_numbered policy m (x ∷ xs) = ap (λ (ys : List (List ℕ × NetRule)). (policy.namespace, x) ∷ ys) (spaced_numbered policy (m + 1) xs)
 
@@ -197,7 +193,7 @@ module _ (rules : List RuleRef) (direction : Direction) (p : PodEnd) where
           spaced_numbered (net_without rules (n, policy)) 0 (unwrap_or (net_rules_of direction (net_without rules (n, policy))) [])
           ∙ ap (λ (found : Option (List NetRule)). map (in_space policy.namespace) (unwrap_or found [])) (net_rules_left n policy)
           ∙ ap (map (in_space policy.namespace)) (or_none (goes rules Net n direction) (net_rules_of direction policy))
-          ∙ stay_in_one (net_place_at policy) spaced (in_space policy.namespace) n net_stays (goes rules Net n direction) (λ e. refl) (λ e. refl) (unwrap_or (net_rules_of direction policy) [])
+          ∙ stay_in_one (net_made policy) spaced (in_space policy.namespace) n net_stays (goes rules Net n direction) (λ e. refl) (λ e. refl) (unwrap_or (net_rules_of direction policy) [])
       one false = refl
 
   abbrev pub IsNetAt : List NetPolicy → ℕ × PlacedNetRule → Type 0
