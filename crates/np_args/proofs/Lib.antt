@@ -11,5 +11,8 @@ pub mod NumberLemmas
 pub mod OptionLemmas
 pub mod PacketLemmas
 pub mod SampleLemmas
+pub mod SettingLemmas
 pub mod TableLemmas
 pub mod ValueLemmas
+pub mod ValueOptionLemmas
+pub mod WordLemmas

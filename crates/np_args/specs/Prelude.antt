@@ -13,7 +13,7 @@ pub use Rattle.np_args.specs.Faults.{fault_of_kind}
 pub use Rattle.np_args.specs.FileWords.{files_command, files_of}
 unfoldable pub use Rattle.np_args.specs.FileWords.{flatten_job, unused_job}
 pub use Rattle.np_args.specs.Jobs.{IsWell}
-pub use Rattle.np_args.specs.Laws.{is_list_option, is_plain, or_standard_input, text_table}
+pub use Rattle.np_args.specs.Laws.{Setting, Table, controller_is, default_table, focus_is, format_is, format_word, is_list_option, is_plain, is_same_option, or_standard_input, report_is, report_word, setting_word, side_is, side_word, table_job, text_table, with_setting}
 pub use Rattle.np_args.specs.ListWords.{list_command, list_job_of}
 unfoldable pub use Rattle.np_args.specs.ListWords.{list_job}
 pub use Rattle.np_args.specs.SampleWords.{sample_command, sample_of}

@@ -4,8 +4,9 @@ ghost use Rattle.std.specs.Prelude.{◌≡◌, ◌≢◌, ◌==◌, ◌∷◌, �
 ghost use Rattle.std.specs.List.{before_first, list_all};
 ghost use Rattle.np_conns.specs.Prelude.{proto_named};
 ghost use Rattle.np_conns.specs.declared.proto.Proto.{Proto};
-ghost use Rattle.np_args.specs.Prelude.{Word, are_files, format_of, is_list_option, is_plain, job_of, or_standard_input, packet_end_of, packet_port_of, report_of, text_table};
+ghost use Rattle.np_args.specs.Prelude.{Setting, Word, are_files, default_table, focus_side_of, format_of, format_word, is_list_option, is_plain, is_same_option, job_of, or_standard_input, packet_end_of, packet_port_of, report_of, report_word, setting_word, side_word, table_job, text_table, with_setting};
 ghost use Rattle.np_args.specs.declared.end_word.EndWord.{EndWord};
+ghost use Rattle.np_args.specs.declared.focus_side.FocusSide.{FocusSide};
 ghost use Rattle.np_args.specs.declared.format.Format.{Format};
 ghost use Rattle.np_args.specs.declared.format.Format.TheVariants.{Plain};
 ghost use Rattle.np_args.specs.declared.job.Job.TheVariants.{Check as CheckJob, Evaluate as EvaluateJob, Explain as ExplainJob, Exposure as ExposureJob, Flatten as FlattenJob, Sample as SampleJob, Unused as UnusedJob};
@@ -44,6 +45,36 @@ pub fn report_is_read_after_its_option()
         ≡ Some (text_table report None None (or_standard_input names)) }
     ensures refused { (value : Word) (names : List Word) → report_of value ≡ None → list_all is_plain names ≡ true →
         job_of (codes "list" ∷ (codes "--report=" ++ value) ∷ names) ≡ None }
+{}
+
+/// Before the files, a format stands in the word after `--format`, or behind `=`, and leaves the other options at their defaults. A
+/// value that is no format asks for nothing.
+pub fn format_is_read_after_its_option()
+    ensures apart { (value : Word) (format : Format) (names : List Word) → format_of value ≡ Some format →
+        list_all is_plain names ≡ true → are_files names ≡ true →
+        job_of (codes "list" ∷ codes "--format" ∷ value ∷ names)
+        ≡ Some (table_job (record default_table { format = format }) (or_standard_input names)) }
+    ensures joined { (value : Word) (format : Format) (names : List Word) → format_of value ≡ Some format →
+        list_all is_plain names ≡ true → are_files names ≡ true →
+        job_of (codes "list" ∷ (codes "--format=" ++ value) ∷ names)
+        ≡ Some (table_job (record default_table { format = format }) (or_standard_input names)) }
+    ensures refused { (value : Word) (names : List Word) → format_of value ≡ None → list_all is_plain names ≡ true →
+        job_of (codes "list" ∷ (codes "--format=" ++ value) ∷ names) ≡ None }
+{}
+
+/// Before the files, a side stands in the word after `--side`, or behind `=`, and leaves the other options at their defaults. A
+/// value that is no side asks for nothing.
+pub fn side_is_read_after_its_option()
+    ensures apart { (value : Word) (side : FocusSide) (names : List Word) → focus_side_of value ≡ Some side →
+        list_all is_plain names ≡ true → are_files names ≡ true →
+        job_of (codes "list" ∷ codes "--side" ∷ value ∷ names)
+        ≡ Some (table_job (record default_table { side = side }) (or_standard_input names)) }
+    ensures joined { (value : Word) (side : FocusSide) (names : List Word) → focus_side_of value ≡ Some side →
+        list_all is_plain names ≡ true → are_files names ≡ true →
+        job_of (codes "list" ∷ (codes "--side=" ++ value) ∷ names)
+        ≡ Some (table_job (record default_table { side = side }) (or_standard_input names)) }
+    ensures refused { (value : Word) (names : List Word) → focus_side_of value ≡ None → list_all is_plain names ≡ true →
+        job_of (codes "list" ∷ (codes "--side=" ++ value) ∷ names) ≡ None }
 {}
 
 /// Before the files, any text behind `--focus=` is a name. In a word of its own a name begins with no hyphen, or is the
@@ -151,4 +182,20 @@ pub fn sample_takes_one_number()
 pub fn ports_are_decimals()
     ensures { (word : Word) (port : ℕ) →
         (packet_port_of word ≡ Some port) ↔ ((1 ≤ port) × (port ≤ 65535) × (word ≡ decimal port)) }
+{}
+
+/// The words that are formats, reports and sides: each of these has one word, and no other word is one.
+pub fn values_have_one_word()
+    ensures format { (word : Word) (format : Format) → (format_of word ≡ Some format) ↔ (word ≡ format_word format) }
+    ensures report { (word : Word) (report : Report) → (report_of word ≡ Some report) ↔ (word ≡ report_word report) }
+    ensures side { (word : Word) (side : FocusSide) → (focus_side_of word ≡ Some side) ↔ (word ≡ side_word side) }
+{}
+
+/// Before the files, two options of `list`, in either order, each set their part of the table, and leave the other parts at their
+/// defaults.
+pub fn two_options_are_both_read()
+    ensures { (first second : Setting) (names : List Word) → is_same_option first second ≡ false →
+        list_all is_plain names ≡ true → are_files names ≡ true →
+        job_of (codes "list" ∷ setting_word first ∷ setting_word second ∷ names)
+        ≡ Some (table_job (with_setting (with_setting default_table first) second) (or_standard_input names)) }
 {}
