@@ -1,5 +1,5 @@
 -- Sides that are the same mention the same requirements, and have one list of rows. For `is_same_side` and crates above.
-use Rattle.std.proofs.Common.{◌≡◌, ◌<◌, ℕ, List, [], ◌∷◌, ◌++◌, map, filter, find, get_or, length, true, ◌&&◌, Option, None, Some, is_some, refl, sym, ap, ◌∙◌, if◌then◌else◌}
+use Rattle.std.proofs.Common.{◌≡◌, ◌<◌, ℕ, List, [], ◌∷◌, ◌++◌, map, filter, find, get_or, length, Bool, true, ◌&&◌, Option, None, Some, is_some, refl, sym, ap, subst, ◌∙◌, if◌then◌else◌}
 use Rattle.std.specs.Cmp.{booleans_Decides}
 use Rattle.std.specs.List.{AllByRecursion, enumerate_from, list_all, list_any}
 use Rattle.std.proofs.lemmas.Bool.{and_parts}
@@ -166,11 +166,18 @@ pod-read lists pods place read all within is =
     let there : read ≡ get_or lists.pods place read = is ∙ ap (λ (listed : List ListedPod). get_or listed place read) all in
     sym (ap (λ (found : Option ListedPod). option_map_or pod_end found no_pod) (slice_get_read lists.pods (length lists.pods) place read refl within there))
 
+-- two pods that are read at their places
+pub same-read : (lists : EstateLists) (direction : Direction) (place other : ℕ) (p q : PodEnd) → p ≡ pod_at lists place → q ≡ pod_at lists other → IsSameSide lists direction p q →
+    IsSameSide lists direction (pod_at lists place) (pod_at lists other)
+same-read lists direction place other p q near far same =
+    subst (λ (a : PodEnd). IsSameSide lists direction a (pod_at lists other)) near (subst (λ (b : PodEnd). IsSameSide lists direction p b) far same)
+
 module _ (lists : EstateLists) (direction : Direction) (place other : ℕ) (same : IsSameSide lists direction (pod_at lists place) (pod_at lists other)) where
   pub mentions-same : mentions (side_of lists place direction) ≡ mentions (side_of lists other direction)
   unfolding mentions
   mentions-same =
-      let (p, q) = (pod_at lists place, pod_at lists other) in
+      let p = pod_at lists place in
+      let q = pod_at lists other in
       rw (admins-same lists direction p q same, nets-same lists direction p q same, base-same lists direction p q same) refl
 
   pub rows-one : rows_of (side_of lists place direction) ≡ rows_of (side_of lists other direction)
