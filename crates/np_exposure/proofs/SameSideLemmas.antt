@@ -2,7 +2,8 @@
 use Rattle.std.proofs.Common.{◌≡◌, ◌<◌, ℕ, List, [], ◌∷◌, ◌++◌, map, filter, find, get_or, length, Bool, true, ◌&&◌, Option, None, Some, is_some, refl, sym, ap, subst, ◌∙◌, if◌then◌else◌}
 use Rattle.std.specs.Cmp.{booleans_Decides}
 use Rattle.std.specs.List.{AllByRecursion, enumerate_from, list_all, list_any}
-use Rattle.std.proofs.lemmas.Bool.{and_parts}
+use Rattle.std.proofs.lemmas.List.Elements.{recursion_from_All}
+use Rattle.std.proofs.lemmas.List.Sums.{AllPass-from_list_all}
 use Rattle.std.proofs.lemmas.Option.{slice_get_read}
 use Rattle.std.specs.Option.{option_map_or}
 use Rattle.np_base.proofs.Each.{All-weaker}
@@ -44,10 +45,9 @@ module _ (a b : PodSide) (same : mentions a ≡ mentions b) (alike : (s : Strang
 -- ---- tests that agree
 
 agree-each : {X : Type 0} (p q : X → Bool) (xs : List X) → list_all (λ x. beq (p x) (q x)) xs ≡ true → AllByRecursion (λ x. p x ≡ q x) xs
-agree-each p q [] all = tt
-agree-each p q (x ∷ xs) all =
-    let parts = and_parts (beq (p x) (q x)) (list_all (λ y. beq (p y) (q y)) xs) all in
-    ((booleans_Decides (p x) (q x)).0 parts.0, agree-each p q xs parts.1)
+agree-each p q xs all =
+    All-weaker (λ x. beq (p x) (q x) ≡ true) (λ x. p x ≡ q x) (λ x is. (booleans_Decides (p x) (q x)).0 is) xs
+    (recursion_from_All (λ x. beq (p x) (q x) ≡ true) xs (AllPass-from_list_all (λ x. beq (p x) (q x)) xs all))
 
 -- ---- two pods that the policies of an estate do not tell apart
 
