@@ -1,7 +1,7 @@
 -- Sides that are the same mention the same requirements, and have one list of rows. For `is_same_side` and crates above.
-use Rattle.std.proofs.Common.{◌≡◌, ◌<◌, ℕ, List, [], ◌∷◌, ◌++◌, map, filter, find, get_or, length, Bool, true, ◌&&◌, Option, None, Some, is_some, refl, sym, ap, subst, ◌∙◌, if◌then◌else◌}
+use Rattle.std.proofs.Common.{◌≡◌, ◌<◌, ℕ, List, [], ◌∷◌, ◌++◌, map, filter, find, get_or, length, true, ◌&&◌, Option, None, Some, is_some, refl, sym, ap, subst, ◌∙◌, if◌then◌else◌}
 use Rattle.std.specs.Cmp.{booleans_Decides}
-use Rattle.std.specs.List.{AllByRecursion, enumerate_from, list_all, list_any}
+use Rattle.std.specs.List.{AllByRecursion, enumerate_from, list_any}
 use Rattle.std.proofs.lemmas.List.Elements.{recursion_from_All}
 use Rattle.std.proofs.lemmas.List.Sums.{AllPass-from_list_all}
 use Rattle.std.proofs.lemmas.Option.{slice_get_read}
@@ -42,23 +42,22 @@ module _ (a b : PodSide) (same : mentions a ≡ mentions b) (alike : (s : Strang
   pub rows-same : rows_of a ≡ rows_of b
   rows-same = left-same (each_once (mentions a)) [] ∙ ap (λ (all : List SidedRequirement). rows_left b (each_once all) []) same
 
--- ---- tests that agree
-
-agree-each : {X : Type 0} (p q : X → Bool) (xs : List X) → list_all (λ x. beq (p x) (q x)) xs ≡ true → AllByRecursion (λ x. p x ≡ q x) xs
-agree-each p q xs all =
-    All-weaker (λ x. beq (p x) (q x) ≡ true) (λ x. p x ≡ q x) (λ x is. (booleans_Decides (p x) (q x)).0 is) xs
-    (recursion_from_All (λ x. beq (p x) (q x) ≡ true) xs (AllPass-from_list_all (λ x. beq (p x) (q x)) xs all))
-
 -- ---- two pods that the policies of an estate do not tell apart
 
 module _ (lists : EstateLists) (direction : Direction) (p q : PodEnd) (same : IsSameSide lists direction p q) where
   -- ---- the rules that speak of them
 
   admins-each : AllByRecursion (λ policy. subject_selects policy.subject p ≡ subject_selects policy.subject q) lists.admin_policies
-  admins-each = agree-each (λ policy. subject_selects policy.subject p) (λ policy. subject_selects policy.subject q) lists.admin_policies same.admin
+  admins-each =
+      All-weaker (λ policy. is_subject_of_both policy.subject p q ≡ true) (λ policy. subject_selects policy.subject p ≡ subject_selects policy.subject q)
+      (λ policy is. (booleans_Decides (subject_selects policy.subject p) (subject_selects policy.subject q)).0 is) lists.admin_policies
+      (recursion_from_All _ lists.admin_policies (AllPass-from_list_all (λ policy. is_subject_of_both policy.subject p q) lists.admin_policies same.admin))
 
   nets-each : AllByRecursion (λ policy. net_selects policy p ≡ net_selects policy q) lists.net_policies
-  nets-each = agree-each (λ policy. net_selects policy p) (λ policy. net_selects policy q) lists.net_policies same.net
+  nets-each =
+      All-weaker (λ policy. beq (net_selects policy p) (net_selects policy q) ≡ true) (λ policy. net_selects policy p ≡ net_selects policy q)
+      (λ policy is. (booleans_Decides (net_selects policy p) (net_selects policy q)).0 is) lists.net_policies
+      (recursion_from_All _ lists.net_policies (AllPass-from_list_all (λ policy. beq (net_selects policy p) (net_selects policy q)) lists.net_policies same.net))
 
   admins-of : (policies : List AdminPolicy) → AllByRecursion (λ policy. subject_selects policy.subject p ≡ subject_selects policy.subject q) policies →
       admin_places policies direction p ≡ admin_places policies direction q
