@@ -1,4 +1,5 @@
 pub mod ExposureLemmas
+pub mod KnownLemmas
 pub mod PromiseLemmas
 pub mod SideLemmas
 mod WorkloadLemmas

@@ -1,14 +1,13 @@
 -- The pods of a workload have one list of rows. For `workloads_stand_for_their_pods_to_strangers`.
-use Rattle.std.proofs.Common.{◌≡◌, ◌<◌, ℕ, List, [], ◌∷◌, ◌++◌, Some, Option, length, slice_get, refl, sym, ap, ◌∙◌, inr}
+use Rattle.std.proofs.Common.{◌≡◌, ◌<◌, ℕ, ◌++◌, Some, Option, length, slice_get, refl, sym, ap, ◌∙◌, inr}
 use Rattle.std.specs.List.{AllByRecursion, flat_map}
 use Rattle.std.specs.Option.{option_map_or}
 use Rattle.np_base.proofs.Each.{All-parts}
 use Rattle.np_base.proofs.Lists.{slice_get-some}
-use Rattle.np_command_exposure.specs.Types.{Direction, Egress, EstateLists, ExposureRow, Ingress, Stranger}
-use Rattle.np_conns.proofs.ConnLemmas.{conns_of-agrees}
+use Rattle.np_command_exposure.specs.Types.{Direction, Egress, EstateLists, Ingress, Stranger}
 use Rattle.np_conns.specs.declared.proto.Proto.TheVariants.{Tcp}
-use Rattle.np_exposure.specs.Prelude.{Four, PortSpot, bare_row, can_be_assumed, choices_left, each_once, exposes, first_stranger, mentions, negated, rows_at, rows_left, rows_of}
-use Rattle.np_exposure.specs.declared.sided_requirement.SidedRequirement.{SidedRequirement}
+use Rattle.np_exposure.proofs.SameSideLemmas.{rows-same}
+use Rattle.np_exposure.specs.Prelude.{Four, PortSpot, exposes, mentions, rows_of}
 use Rattle.np_fold.proofs.NamespaceLemmas.{labels_agree}
 use Rattle.np_fold.proofs.WorkloadLemmas.{one_workload}
 use Rattle.np_fold.specs.Prelude.{IsSameKind, keys_of_admin_policy, keys_of_baseline, keys_of_estate, keys_of_net_policy, keys_of_service, workload_number}
@@ -23,29 +22,7 @@ use Rattle.np_model.specs.Prelude.{IsLawful}
 use Rattle.np_model.specs.declared.pod.Pod.{Pod}
 use Rattle.np_rules.proofs.DeciderLemmas.{decider_says}
 use Rattle.np_rules.proofs.EachItem.{All-three}
-use Rattle.np_rules.specs.Prelude.{Contact, PodSide, admin_places, base_places, decider_allows, net_places, no_pod, pod, pod_at, pod_end, side_of, stranger_end}
-
--- ---- sides that mention the same and expose alike
-
-module _ (a b : PodSide) (same : mentions a ≡ mentions b) (alike : (s : Stranger) (spot : PortSpot) → exposes a s spot ≡ exposes b s spot) where
-  row-same : (s : Stranger) → bare_row a s ≡ bare_row b s
-  row-same s = ap (λ conns. record { requirements = []; conns = conns }) (conns_of-agrees (exposes a s) (exposes b s) (λ spot inside. alike s spot))
-
-  left-same : (left assumed : List SidedRequirement) → rows_left a left assumed ≡ rows_left b left assumed
-  unfolding rows_left
-  left-same [] assumed =
-      ap (λ (row : ExposureRow). row ∷ []) (ap (λ (all : List SidedRequirement). bare_row a (first_stranger (choices_left all assumed))) same ∙ row-same
-      (first_stranger (choices_left (mentions b) assumed)))
-  left-same (asked ∷ left) assumed =
-      ap (λ (all : List SidedRequirement). rows_at asked (can_be_assumed all (asked ∷ assumed)) (can_be_assumed all (negated asked ∷ assumed)) (rows_left a left (asked ∷ assumed))
-      (rows_left a left (negated asked ∷ assumed))) same
-      ∙ ap (λ (met : List ExposureRow). rows_at asked (can_be_assumed (mentions b) (asked ∷ assumed)) (can_be_assumed (mentions b) (negated asked ∷ assumed)) met
-      (rows_left a left (negated asked ∷ assumed))) (left-same left (asked ∷ assumed))
-      ∙ ap (λ (unmet : List ExposureRow). rows_at asked (can_be_assumed (mentions b) (asked ∷ assumed)) (can_be_assumed (mentions b) (negated asked ∷ assumed))
-      (rows_left b left (asked ∷ assumed)) unmet) (left-same left (negated asked ∷ assumed))
-
-  rows-same : rows_of a ≡ rows_of b
-  rows-same = left-same (each_once (mentions a)) [] ∙ ap (λ (all : List SidedRequirement). rows_left b (each_once all) []) same
+use Rattle.np_rules.specs.Prelude.{Contact, admin_places, base_places, decider_allows, net_places, no_pod, pod, pod_at, pod_end, side_of, stranger_end}
 
 -- ---- pods of one kind
 

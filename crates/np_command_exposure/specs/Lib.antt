@@ -1,3 +1,4 @@
+pub mod Known
 pub mod Promise
 pub mod Report
 pub mod Types

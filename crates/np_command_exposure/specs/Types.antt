@@ -9,3 +9,5 @@ pub use Rattle.np_report.specs.declared.row.RowText.{RowText}
 pub use Rattle.np_command.specs.declared.fault.Fault.{Fault}
 pub use Rattle.np_command.specs.declared.fault.Fault.TheVariants.{TooManyPatterns, UnknownEnd}
 pub use Rattle.np_command_exposure.specs.declared.report.ShownSide.{ShownSide}
+pub use Rattle.np_command_exposure.specs.declared.known_rows.KnownSide.{KnownSide}
+pub use Rattle.np_command_exposure.specs.declared.known_rows.PeerRow.{PeerRow}

@@ -1,6 +1,7 @@
 //! `exposure`: what a pod that nobody has written yet could reach, and be reached by.
 #![tactic(auto)]
 
+mod known_rows;
 mod laws;
 mod report;
 

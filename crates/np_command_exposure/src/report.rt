@@ -7,11 +7,11 @@ ghost use Rattle.np_exposure.specs.declared.exposures.TheConstants.{MOST_PATTERN
 ghost use Rattle.np_report.specs.Prelude.{text_to_come};
 ghost use Rattle.np_kinds.specs.Prelude.{IsWorkload};
 
+use crate::known_rows::{KnownRows, PeerRow, peer_rows};
 use np_args::Format;
 use np_base::{NoMemory, Seq, Text};
 use np_command::{Failure, Fault, WriteFault, workload_of};
-use np_conns::print_conns;
-use np_exposure::{ExposureFault, ExposureRow, MOST_PATTERNS, exposure, print_peer, weight};
+use np_exposure::{ExposureFault, MOST_PATTERNS, exposure, side_mark, weight};
 use np_fold::Folded;
 use np_io::{BufferedSink, Sink};
 use np_kinds::first_place;
@@ -163,9 +163,10 @@ fn write_sides<F: Form, O: Sink>(
         result }
 {
     let mut gathered = BufferedSink::new(alloc)?;
+    let mut known = KnownRows::new(alloc, folded.estate());
     let mut came = false;
     for side in sides {
-        let rows = rows_at(alloc, folded, *side)?;
+        let rows = rows_at(alloc, folded, *side, &mut known)?;
         let lines = lines_of::<F>(alloc, came, rows.items())?;
         gathered.put(out, &lines)?;
         came |= !rows.items().is_empty();
@@ -175,18 +176,42 @@ fn write_sides<F: Form, O: Sink>(
     Ok(())
 }
 
-// The rows of a side.
+// The rows of a side, those of which it takes from an earlier side that is the same, where that is known.
 #[tactic(auto, unfolding(crate::specs::Report::side_rows))]
-fn rows_at(alloc: Global, folded: &Folded, side: ShownSide) -> Result<Seq<RowText>, NoMemory>
+fn rows_at(
+    alloc: Global,
+    folded: &Folded,
+    side: ShownSide,
+    known: &mut KnownRows<'_>,
+) -> Result<Seq<RowText>, NoMemory>
     requires there { IsWorkload folded.now side.workload }
     requires few { spec.weight_at folded.now side ≤ MOST }
-    ensures { IfOk result (λ rows. rows ≡ spec.side_rows folded.now side) }
+    requires known { known.old ≡ folded.now }
+    ensures rows { IfOk result (λ rows. rows ≡ spec.side_rows folded.now side) }
+    ensures known { OnOk result (known.new ≡ known.old) }
 {
     let workloads = folded.workloads();
     let name = workloads.name(side.workload);
     let pod = first_place(folded, side.workload);
+    let mark = side_mark(folded.estate(), pod, side.direction);
+    if let Some(rows) = known.find(pod, side.direction, mark) {
+        return row_texts(alloc, name, side.direction, rows);
+    }
+    let rows = rows_found(alloc, folded, side)?;
+    let texts = row_texts(alloc, name, side.direction, rows.items())?;
+    known.keep(pod, side.direction, mark, rows)?;
+    Ok(texts)
+}
+
+// The rows of a side, without the name of its workload.
+fn rows_found(alloc: Global, folded: &Folded, side: ShownSide) -> Result<Seq<PeerRow>, NoMemory>
+    requires there { IsWorkload folded.now side.workload }
+    requires few { spec.weight_at folded.now side ≤ MOST }
+    ensures { IfOk result (λ rows. rows ≡ spec.peer_rows (spec.pod_side folded.now side)) }
+{
+    let pod = first_place(folded, side.workload);
     match exposure(alloc, folded.estate(), pod, side.direction) {
-        Ok(rows) => row_texts(alloc, name, side.direction, rows.items()),
+        Ok(rows) => peer_rows(alloc, rows.items()),
         Err(ExposureFault::NoMemory) => Err(NoMemory),
         Err(ExposureFault::TooManyPatterns { .. }) => unreachable!(),
     }
@@ -197,9 +222,9 @@ fn row_texts(
     alloc: Global,
     name: &str,
     direction: Direction,
-    rows: &[ExposureRow],
+    rows: &[PeerRow],
 ) -> Result<Seq<RowText>, NoMemory>
-    ensures { IfOk result (λ texts. texts ≡ map (spec.exposure_row_text name.now direction) rows.now) }
+    ensures { IfOk result (λ texts. texts ≡ map (spec.named_row name.now direction) rows.now) }
 {
     let mut texts = Seq::new(alloc);
     for row in rows {
@@ -213,13 +238,13 @@ fn row_text(
     alloc: Global,
     name: &str,
     direction: Direction,
-    row: &ExposureRow,
+    row: &PeerRow,
 ) -> Result<RowText, NoMemory>
-    ensures { IfOk result (λ text. text ≡ spec.exposure_row_text name.now direction row.now) }
+    ensures { IfOk result (λ text. text ≡ spec.named_row name.now direction row.now) }
 {
-    let peer = print_peer(alloc, row)?;
+    let peer = row.peer.copy()?;
     let name = Text::of(alloc, name)?;
-    let connections = print_conns(alloc, &row.conns)?;
+    let connections = row.connections.copy()?;
     Ok(match direction {
         Direction::Ingress => RowText {
             source: peer,

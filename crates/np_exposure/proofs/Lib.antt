@@ -20,3 +20,4 @@ pub mod LeftLemmas
 pub mod PossibleLemmas
 pub mod SettledLemmas
 pub mod OnlyNamespaceLemmas
+pub mod SameSideLemmas

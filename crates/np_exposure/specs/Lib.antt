@@ -4,6 +4,7 @@ pub mod PeerText
 pub mod Prelude
 pub mod Right
 pub mod Rows
+pub mod SameSides
 pub mod steps
 pub mod Strangers
 pub mod Tree

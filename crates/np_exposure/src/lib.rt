@@ -24,7 +24,9 @@ mod peer_text;
 mod pending;
 mod requirements;
 mod same;
+mod same_sides;
 mod side;
+mod side_marks;
 mod sided_requirement;
 mod step;
 mod walk;
@@ -40,6 +42,8 @@ pub use laws::{
     requirements_of_read_policies_are_well, rows_are_few, rows_can_be_told,
 };
 pub use peer_text::print_peer;
+pub use same_sides::is_same_side;
 pub use side::Side;
+pub use side_marks::side_mark;
 pub use sided_requirement::SidedRequirement;
 pub use weights::weight;
