@@ -1,6 +1,7 @@
 -- Rows without and with the name of their workload. For `rows_at`.
 use Rattle.std.proofs.Common.{◌≡◌, ℕ, List, [], ◌∷◌, map, refl, ap, ◌∙◌}
-use Rattle.np_command_exposure.specs.Report.{exposure_row_text, named_row, peer_row, peer_rows, pod_side, side_rows}
+use Rattle.np_command_exposure.specs.Report.{exposure_row_text, pod_side, side_rows}
+use Rattle.np_command_exposure.specs.steps.Known.{named_row, peer_row, peer_rows}
 use Rattle.np_command_exposure.specs.Types.{Direction, Egress, EstateLists, ExposureRow, Ingress, PeerRow, RowText, ShownSide}
 use Rattle.np_exposure.specs.Prelude.{rows_of}
 use Rattle.np_fold.specs.Prelude.{folding_of, name_of_workload}

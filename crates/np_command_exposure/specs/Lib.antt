@@ -1,4 +1,4 @@
-pub mod Known
 pub mod Promise
 pub mod Report
+pub mod steps
 pub mod Types

@@ -2,7 +2,7 @@
 use Rattle.std.specs.Prelude.{ℕ, ◌-◌, ◌^◌, List, [], ◌∷◌, flat_map, map, min, nat_lt, Option, Some, None, Result, Ok, Err, ⊤, if◌then◌else◌}
 use Rattle.std.specs.List.{range_with_len}
 use Rattle.np_command.specs.Prelude.{or_unknown}
-use Rattle.np_command_exposure.specs.Types.{Direction, Egress, EstateLists, ExposureRow, Fault, Format, Ingress, PeerRow, RowText, ShownSide, TooManyPatterns}
+use Rattle.np_command_exposure.specs.Types.{Direction, Egress, EstateLists, ExposureRow, Fault, Format, Ingress, RowText, ShownSide, TooManyPatterns}
 use Rattle.np_conns.specs.Prelude.{conns_text, has_spot}
 use Rattle.np_exposure.specs.Prelude.{mentions, peer_text, rows_of, weight}
 use Rattle.np_exposure.specs.declared.exposures.TheConstants.{MOST_PATTERNS}
@@ -58,22 +58,6 @@ exposure_row_text name Egress row = record { source = name; destination = peer_t
 -- the rows of a side
 unfoldable pub side_rows : EstateLists → ShownSide → List RowText
 side_rows lists shown = map (exposure_row_text (name_of_workload (folding_of lists) shown.workload) shown.direction) (rows_of (pod_side lists shown))
-
--- ---- the same in two steps, of which the first is one for all sides that are the same
-
--- the texts of a row that do not name the workload
-abbrev pub peer_row : ExposureRow → PeerRow
-peer_row row = record { peer = peer_text row.requirements; connections = conns_text (has_spot row.conns) }
-
-abbrev pub peer_rows : PodSide → List PeerRow
-peer_rows side = map peer_row (rows_of side)
-
--- with the name of the workload
-abbrev pub named_row : List ℕ → Direction → PeerRow → RowText
-named_row name Ingress row = record { source = row.peer; destination = name; connections = row.connections }
-named_row name Egress row = record { source = name; destination = row.peer; connections = row.connections }
-
--- ---- text of sides
 
 -- the text of the rows of some sides, in a format
 unfoldable pub exposure_text : Format → EstateLists → List ShownSide → List ℕ

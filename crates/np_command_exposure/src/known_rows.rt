@@ -1,6 +1,6 @@
 //! The rows of sides that were found, for those that are the same.
 ghost use Rattle.std.specs.Prelude.{◌≡◌, ◌<◌, IfOk, IfSome, OnOk, length, map};
-ghost use Rattle.np_command_exposure.specs.Report as spec;
+ghost use Rattle.np_command_exposure.specs.steps.Known as spec;
 ghost use Rattle.np_rules.specs.Prelude.{side_of};
 
 use np_base::{NoMemory, Seq, Text};
@@ -54,7 +54,7 @@ impl<'a> Drop for KnownRows<'a> {
 }
 
 impl<'a> Model for KnownRows<'a> {
-    ghost use Rattle.np_command_exposure.specs.Known.{AreKnown};
+    ghost use Rattle.np_command_exposure.specs.steps.Known.{AreKnown};
     ghost use Rattle.np_model.specs.declared.lists.EstateLists.{EstateLists};
 
     ghost Value = { EstateLists };

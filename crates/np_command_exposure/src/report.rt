@@ -3,6 +3,7 @@ ghost use Rattle.std.specs.Prelude.{◌≡◌, ◌≤◌, ◌++◌, All, IfOk, O
 ghost use Rattle.std.specs.List.{range_with_len};
 ghost use Rattle.np_command.specs.Prelude.{Gives, Writes, Wrote, sunk};
 ghost use Rattle.np_command_exposure.specs.Report as spec;
+ghost use Rattle.np_command_exposure.specs.steps.Known as steps;
 ghost use Rattle.np_exposure.specs.declared.exposures.TheConstants.{MOST_PATTERNS as MOST};
 ghost use Rattle.np_report.specs.Prelude.{text_to_come};
 ghost use Rattle.np_kinds.specs.Prelude.{IsWorkload};
@@ -207,7 +208,7 @@ fn rows_at(
 fn rows_found(alloc: Global, folded: &Folded, side: ShownSide) -> Result<Seq<PeerRow>, NoMemory>
     requires there { IsWorkload folded.now side.workload }
     requires few { spec.weight_at folded.now side ≤ MOST }
-    ensures { IfOk result (λ rows. rows ≡ spec.peer_rows (spec.pod_side folded.now side)) }
+    ensures { IfOk result (λ rows. rows ≡ steps.peer_rows (spec.pod_side folded.now side)) }
 {
     let pod = first_place(folded, side.workload);
     match exposure(alloc, folded.estate(), pod, side.direction) {
@@ -224,7 +225,7 @@ fn row_texts(
     direction: Direction,
     rows: &[PeerRow],
 ) -> Result<Seq<RowText>, NoMemory>
-    ensures { IfOk result (λ texts. texts ≡ map (spec.named_row name.now direction) rows.now) }
+    ensures { IfOk result (λ texts. texts ≡ map (steps.named_row name.now direction) rows.now) }
 {
     let mut texts = Seq::new(alloc);
     for row in rows {
@@ -240,7 +241,7 @@ fn row_text(
     direction: Direction,
     row: &PeerRow,
 ) -> Result<RowText, NoMemory>
-    ensures { IfOk result (λ text. text ≡ spec.named_row name.now direction row.now) }
+    ensures { IfOk result (λ text. text ≡ steps.named_row name.now direction row.now) }
 {
     let peer = row.peer.copy()?;
     let name = Text::of(alloc, name)?;

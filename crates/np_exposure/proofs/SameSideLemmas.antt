@@ -10,7 +10,7 @@ use Rattle.np_base.proofs.Each.{All-weaker}
 use Rattle.np_conns.proofs.ConnLemmas.{conns_of-agrees}
 use Rattle.np_conns.specs.Prelude.{same_proto}
 use Rattle.np_exposure.specs.Prelude.{AdminPolicy, AdminPort, AdminRule, BasePolicy, Direction, Egress, ExposureRow, Four, Ingress, NetPolicy, NetPort, NetRule, PortSpot, SidedRequirement, Stranger, bare_row, can_be_assumed, choices_left, each_once, exposes, first_stranger, mentions, negated, of_admin_rule, of_placed, rows_at, rows_left, rows_of}
-use Rattle.np_exposure.specs.SameSides.{HaveSamePorts, IsSameSide, is_alike_for_base, is_subject_of_both}
+use Rattle.np_exposure.specs.steps.SameSides.{HaveSamePorts, IsSameSide, is_alike_for_base, is_subject_of_both}
 use Rattle.np_model.specs.declared.admin_policy.AdminPort.TheVariants as admin_port
 use Rattle.np_model.specs.declared.lists.EstateLists.{EstateLists}
 use Rattle.np_model.specs.declared.named_port.NamedPort.{NamedPort}

@@ -4,7 +4,6 @@ pub mod PeerText
 pub mod Prelude
 pub mod Right
 pub mod Rows
-pub mod SameSides
 pub mod steps
 pub mod Strangers
 pub mod Tree

@@ -4,3 +4,4 @@ pub mod States
 pub mod Walks
 pub mod Settled
 pub mod Left
+pub mod SameSides

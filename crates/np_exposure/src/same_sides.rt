@@ -3,7 +3,7 @@ ghost use Rattle.std.specs.Prelude.{◌≡◌, ◌<◌, length};
 ghost use Rattle.std.specs.Bool.{OnTrue};
 ghost use Rattle.std.specs.Option.{option_copied};
 ghost use Rattle.np_exposure.specs.Prelude.{mentions, rows_of};
-ghost use Rattle.np_exposure.specs.SameSides as spec;
+ghost use Rattle.np_exposure.specs.steps.SameSides as spec;
 ghost use Rattle.np_rules.specs.Prelude.{pod_end, side_of};
 
 use crate::same::{Same, are_same};

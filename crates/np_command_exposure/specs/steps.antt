@@ -1,0 +1,2 @@
+-- What the steps of the code make, which proofs alone cite: no public contract needs it.
+pub mod Known
