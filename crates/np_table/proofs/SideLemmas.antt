@@ -4,7 +4,8 @@ use Rattle.std.proofs.Common.{◌≡◌, ◌<◌, ◌≤◌, ◌+◌, ◌-◌, �
 use Rattle.np_table.specs.Prelude.{AreEnds, Direction, Egress, EstateLists, Family, Four, Ingress, PairEnds, PortSpot, Six, address_rows, ends_of, estate_table, most_rules, pair_key, pair_rows, rows_in, rows_of_addresses, side_with_address, table_of}
 use Rattle.np_conns.specs.Prelude.{Conns, IsConns, conns_of, has_spot, is_spot}
 use Rattle.std.proofs.Math.Nat.{mul-le-mul_right}
-use Rattle.np_model.specs.Prelude.{IsLawful, Pod, families_of, has_family, or_four}
+use Rattle.np_model.specs.Prelude.{IsLawful, families_of, has_family, or_four}
+use Rattle.np_model.specs.declared.pod.Pod.{Pod}
 use Rattle.np_fold.specs.Prelude.{Folding, folding_of, members_of}
 use Rattle.np_rules.specs.Prelude.{PodSide, pod, side_of, side_rule_count}
 use Rattle.np_table.proofs.KindLemmas.{conns_of-nothing, nothing, rows_in-agree, rows_in-nothing, rules-most}
