@@ -61,7 +61,7 @@ class Tree:
         # Who installed np asks for the kit and the digest; those of the sources are in the repository.
         lines = (self.source / "dist" / "manifest").read_bytes().splitlines(keepends=True)
         self._write("share/np/manifest", b"".join(lines[:2]))
-        self._put("share/np", [self.source / "dist" / name for name in ("np.html", "np.wasm", "np.wasm.manifest")])
+        self._put("share/np", [self.source / "dist" / name for name in ("np.html", "np.wasm", "np.wasm.manifest", "np.cdx.json")])
 
     def _put_completion(self) -> None:
         completion = self.source / "completion"
