@@ -62,8 +62,9 @@ def _prepare(kinds: str, pages: Optional[int], is_closed: bool) -> Callable[[], 
     def bound() -> None:
         if is_closed:
             os.close(1)
-        for kind in kinds if pages is not None else "":
-            resource.setrlimit(_BOUNDS[kind], (pages * _PAGE, pages * _PAGE))
+        if pages is not None:
+            for kind in kinds:
+                resource.setrlimit(_BOUNDS[kind], (pages * _PAGE, pages * _PAGE))
     return bound
 
 
