@@ -1,4 +1,3 @@
-#!/usr/bin/env node
 // Made by tools/wasm/node_program.py of page/ask/host.js and tools/wasm/node.js.
 import { closeSync, openSync, readFileSync, readSync, writeSync } from 'node:fs';
 'use strict';

@@ -16,7 +16,6 @@ TOP = Path(os.path.abspath(__file__)).parent.parent.parent
 _USAGE = "usage: tools/wasm/node_program.py [--check]"
 _PARTS = ["page/ask/host.js", "tools/wasm/node.js"]
 _HEAD = """\
-#!/usr/bin/env node
 // Made by tools/wasm/node_program.py of %s.
 import { closeSync, openSync, readFileSync, readSync, writeSync } from 'node:fs';
 """ % " and ".join(_PARTS)
