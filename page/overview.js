@@ -49,7 +49,7 @@ function overviewNode(app, line, x, y, key) {
     },
     drawing('title', {}, line.full),
     drawing('rect', { x, y, width: nodeWidth(), height: NODE.height, rx: 4 }),
-    drawing('text', { x: x + 8, y: y + 16 }, cutMiddle(lineLabel(line, Math.min(34, nodeLetters())), nodeLetters())));
+    drawing('text', { x: x + 8, y: y + 16 }, cutMiddle(lineLabel(line, 34), nodeLetters())));
 }
 
 function overviewEdge(app, matrix, r, c, end, from, to) {
@@ -71,7 +71,8 @@ function overviewDrawing(app, matrix, edges) {
     const width = rightX + nodeWidth(), height = Math.max(left.height, right.height) + 12;
     const frames = (column, x) => [].concat(...column.frames.map(frame => [
         drawing('rect', { class: 'frame', x: x + 0.5, y: frame.y, width: nodeWidth() - 1, height: frame.height, rx: 6 }),
-        drawing('text', { class: 'side-text', x: x + 8, y: frame.y + 20 }, drawing('title', {}, frame.name), cutMiddle(frame.name, nodeLetters()))]));
+        drawing('text', { class: 'side-text', x: x + 8, y: frame.y + 20 }, drawing('title', {}, frame.name),
+            cutMiddle(frame.name, nodeLetters()))]));
     return drawing('svg', { viewBox: '0 0 ' + width + ' ' + height, width, height, role: 'group',
         'aria-label': 'Senders at the left, receivers at the right, by namespace. The matrix and the list say the same in words.' },
     drawing('text', { class: 'side-text', x: 0, y: 18 }, 'Who sends'),

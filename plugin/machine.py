@@ -18,8 +18,8 @@ def runs_np() -> bool:
 
 
 def program_beside(home: Path) -> Path:
-    """The program in the folder of the plugin: np, or what runs np.wasm. In the repository np is a script, which chooses by itself; a system
-    that runs no script without its interpreter is given that of Node."""
+    """The program in the folder of the plugin: np, or what runs np.wasm. In the repository np is a script, which chooses by
+    itself; where a system runs no script without its interpreter, it is the one that Node runs."""
     if runs_np():
         return home / "np"
     if sys.platform != "win32":

@@ -99,8 +99,9 @@ def _runs_here() -> bool:
 
 def is_translated(top: Path) -> bool:
     """Whether dist/np.wasm was made of dist/np, and is as it was made."""
-    wanted = ["%s %s" % (name, sources.digest((top / "dist" / file).read_bytes())) for name, file in (("wasm", "np.wasm"), ("program", "np"))]
-    return set(wanted) <= set((top / "dist" / "np.wasm.manifest").read_text(encoding="utf-8").split("\n"))
+    dist = top / "dist"
+    wanted = {"%s %s" % (name, sources.digest((dist / file).read_bytes())) for name, file in (("wasm", "np.wasm"), ("program", "np"))}
+    return wanted <= set((dist / "np.wasm.manifest").read_text(encoding="utf-8").split("\n"))
 
 
 def _program(top: Path) -> Path:

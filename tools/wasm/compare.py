@@ -152,8 +152,8 @@ def in_browser(name: str, wasm: bytes) -> Iterator[Tested]:
 
 @contextmanager
 def in_node(wasm: bytes) -> Iterator[Tested]:
-    """np-wasm in a folder of its own, as it lies in the repository. Each run is counted by a byte that it writes to a pipe, since a case may
-    bound how large files grow."""
+    """np-wasm in a folder of its own, as it lies in the repository. Each run is counted by a byte that it writes to a pipe, since a case
+    may bound how large files grow."""
     with _folder() as name:
         home = Path(name)
         (home / "dist").mkdir()
