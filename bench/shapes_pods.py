@@ -80,12 +80,6 @@ def selector_keys(count, pods):
     return [*owned_pods(pods, {"app": "a", "k00001": "v"}), to_all({"from": [pods_with_key("k%05d" % i) for i in range(count)]})]
 
 
-@shape("groupKeys", (2000, 5000), (3, 4), "{0:,} workloads that a label tells apart, and a rule with {1:,} peers, each of another key",
-       ("list", "unused", "flatten"), target="default/p0")
-def group_keys(count, keys):
-    return [*labelled_pods(count), to_all({"from": [pods_with_key("k%05d" % i) for i in range(keys)] + [pods_with_key("app")]})]
-
-
 @shape("strangers", (2000, 500), (3, 2), "{0:,} pods, and a rule with {1:,} peers that match none of them", target="default/p0")
 def strangers(count, peers):
     return [*labelled_pods(count), to_all({"from": [pods_with("app", "x%d" % i) for i in range(peers)]})]
@@ -103,8 +97,8 @@ def ports(count):
     return cost.ports(count)
 
 
-@shape("namedPortRules", (10000,), (3,), "a pod with {0:,} container ports of one name and different numbers, and as many rules with that"
-       " name", ("list", "explain", "evaluate", "unused"), source="default/b")
+@shape("namedPortRules", (32000,), (3,), "a pod with {0:,} container ports of one name and different numbers, and as many rules with that"
+       " name", source="default/b")
 def named_port_rules(count):
     return [pod("a", ports=[("h", 2 * i + 1) for i in range(count)]), pod("b"), to_all(*[{"ports": [{"port": "h"}]} for _ in range(count)])]
 

@@ -3,7 +3,8 @@ import itertools
 
 import cost
 from cost import NAME_KEY, policy
-from shape import (admin_policy, but, labelled_pods, named_block, one_rule, pods_with, pods_with_key, port_rule, shape, to_all, two_pods)
+from shape import (admin_policy, but, labelled_pods, named_block, one_rule, own_policies, pods_with, pods_with_key, port_rule, shape,
+                   to_all, two_pods)
 
 
 # Policies and rules.
@@ -47,10 +48,9 @@ def nested(count):
                                   for i in range(count)])]
 
 
-@shape("blocksAndPorts", (10000,), (3,), "a rule with {0:,} blocks and as many ports, no two of them neighbours",
-       ("list", "exposure", "unused", "check"))
-def blocks_and_ports(count):
-    return [*two_pods(), to_all(one_rule([named_block(2 * i) for i in range(count)], [2 * i + 1 for i in range(count)]))]
+@shape("blocksAndPorts", (110000, 32000), (4, 3), "a rule with {0:,} blocks and {1:,} ports, no two of them neighbours")
+def blocks_and_ports(blocks, ports):
+    return [*two_pods(), to_all(one_rule([named_block(2 * i) for i in range(blocks)], [2 * i + 1 for i in range(ports)]))]
 
 
 @shape("ownBlocks", (2000,), (2,), "{0:,} pods, each with a policy that lets in one address", ("list", "unused", "check", "flatten"))
@@ -59,23 +59,28 @@ def own_blocks(count):
                                    for i in range(count)]
 
 
-@shape("samePorts", (500, 30000), (3, 4), "{0:,} pods, and a rule for all of them with {1:,} ports, no two of them neighbours",
-       ("list", "unused", "check"), target="default/p0")
-def same_ports(count, entries):
-    return labelled_pods(count) + [to_all({"ports": [{"port": 2 * i + 1} for i in range(entries)]})]
-
-
 @shape("admin", (1001, 60), (3, 3), "{0:,} AdminNetworkPolicies with {1:,} rules each, of which all but the last speak of other namespaces")
 def admin(count, each):
     far = [{"action": "Pass", "from": [{"namespaces": {"matchLabels": {NAME_KEY: "far-%d" % j}}}]} for j in range(each - 1)]
     return two_pods() + [admin_policy("p%d" % i, i, ingress=[*far, port_rule("Pass", i + 1)]) for i in range(count)]
 
 
+def passing(passes, count, letters):
+    """Rules of an AdminNetworkPolicy that pass on a port each, and NetworkPolicies with names of so many letters that isolate two pods."""
+    return two_pods() + [policy("%0*d" % (letters, i), {"podSelector": {}}) for i in range(count)] + [
+        admin_policy("p", 1, ingress=[port_rule("Pass", 2 * i + 1) for i in range(passes)])]
+
+
 @shape("explainPasses", (15000,), (3,), "{0:,} rules of an AdminNetworkPolicy that pass on a port each, and as many NetworkPolicies that"
-       " isolate two pods", ("list", "explain", "unused"), source="default/b")
+       " isolate two pods", source="default/b")
 def explain_passes(count):
-    return two_pods() + [policy("p%d" % i, {"podSelector": {}}) for i in range(count)] + [
-        admin_policy("p", 1, ingress=[port_rule("Pass", 2 * i + 1) for i in range(count)])]
+    return passing(count, count, 5)
+
+
+@shape("explainNames", (17000, 8500, 250), (3, 2, 9), "the same with {0:,} rules, and {1:,} NetworkPolicies with names of {2} letters",
+       source="default/b", grows=(0, 1))
+def explain_names(passes, count, letters):
+    return passing(passes, count, letters)
 
 
 # Rules that are hard for `exposure`.
@@ -89,6 +94,12 @@ def exposure_namespaces(count):
 @shape("exposureKeys", (20000, 14), (3, 2), "{0:,} rules, each of one of {1} keys that may be there or not", ("exposure",))
 def exposure_keys(count, keys):
     return [*two_pods(), to_all(*[one_rule([pods_with_key("k%d" % (i % keys))], [i % keys + 1]) for i in range(count)])]
+
+
+@shape("exposureKeyPorts", (45000, 14), (3, 2), "{0:,} rules, each of one of {1} keys that may be there or not, and of a port of its own",
+       ("exposure",), grows=(0,))
+def exposure_key_ports(count, keys):
+    return [*two_pods(), to_all(*[one_rule([pods_with_key("k%d" % (i % keys))], [i + 1]) for i in range(count)])]
 
 
 @shape("exposureMixes", (20000, 14), (3, 2), "{0:,} rules, each of a mix of its own of {1} keys that are asked to be there or not to be",
@@ -107,12 +118,6 @@ def exposure_peers(count):
 
 
 # Statements.
-
-def own_policies(count):
-    """Pods with a policy each, which lets in one other."""
-    return labelled_pods(count) + [policy("p%d" % i, {**pods_with("app", "a%d" % i), "ingress": [
-        {"from": [pods_with("app", "a%d" % (i * 7 % count))], "ports": [{"protocol": "TCP", "port": 80}]}]}) for i in range(count)]
-
 
 def as_many(size, lines):
     """The lines, over and over, as long as there is room for them."""
