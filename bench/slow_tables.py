@@ -102,8 +102,8 @@ def breaches(measured):
     broken = [one for one in measured if one.broken]
     lines = ["### What breaks the bounds", ""]
     if broken:
-        lines += ["Where commands share a row, the numbers are the greatest of them, and the growth is that of the one whose time grows most.",
-                  "", row("shape", "command", "bound", "time", "memory", "printed", "grows", "why"), under(8)]
+        lines += ["Where commands share a row, the numbers are the greatest of them, and the growth is that whose time grows most.", "",
+                  row("shape", "command", "bound", "time", "memory", "printed", "grows", "why"), under(8)]
     for (name, how, why), alike in itertools.groupby(broken, lambda one: (one.name, one.broken, one.known)):
         together = list(alike)
         took = ending_of(max((one.parts[1] for one in together), key=lambda done: done["took"]))[0]
@@ -138,7 +138,8 @@ def run_row(one, part, grows, bound):
 
 def all_runs(measured):
     """Each command at full size, and where it had no answer also at the greatest part of it that had one."""
-    lines = ["### All runs", "", row("shape", "size", "read", "command", "time", "status", "memory", "printed", "grows", "bound"), under(10)]
+    titles = row("shape", "size", "read", "command", "time", "status", "memory", "printed", "grows", "bound")
+    lines = ["### All runs", "", titles, under(10)]
     for one in measured:
         lines.append(run_row(one, 1, growth_of(one), one.broken))
         answers = [part for part, done in one.parts.items() if has_answer(done)]
