@@ -45,9 +45,15 @@ def admin_port_rules(count, many):
 # Ports and many pods.
 
 @shape("samePorts", (2000, 32000), (3, 4), "{0:,} pods, and a rule for all of them with {1:,} ports, no two of them neighbours",
-       target="default/p0", lines=lambda *_: TCP_ALONE)
+       target="default/p0")
 def same_ports(count, entries):
     return labelled_pods(count) + [to_all({"ports": [{"port": 2 * i + 1} for i in range(entries)]})]
+
+
+@shape("pairPorts", (2000, 32000), (3, 4), "the same, where the rule asks for a label, so that it tells all pods apart",
+       target="default/p0", source="default/p1", lines=lambda *_: TCP_ALONE)
+def pair_ports(count, entries):
+    return labelled_pods(count) + [to_all(one_rule([pods_with_key("app")], [2 * i + 1 for i in range(entries)]))]
 
 
 @shape("portNames", (2000, 250000), (3, 4), "{0:,} pods with a named port each, and a rule for all of them with {1:,} names of ports",

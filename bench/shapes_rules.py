@@ -131,7 +131,8 @@ def statements(_count):
 
 
 @shape("manyAsked", (2000, 100000), (3, 2), "{0:,} pods with a policy each, and {1:,} statements of all pods and of a namespace that no pod"
-       " has", ("check",), lines=lambda _, many: ["deny namespace nobody => any pod : UDP 9", "allow any pod => any address : TCP 9"] * (many // 2))
+       " has", ("check",),
+       lines=lambda _, many: ["deny namespace nobody => any pod : UDP 9", "allow any pod => any address : TCP 9"] * (many // 2))
 def many_asked(count, _lines):
     return own_policies(count)
 
