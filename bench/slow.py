@@ -49,13 +49,41 @@ END = "<!-- The tables end here. -->"
 # The runs that are known to break the bounds, and why. One that does so and is not here is a finding.
 LONG_ANSWER = "the answer is as long as that"
 PAIRS = "the peers are asked about every two workloads"
+RULES_OF_PAIRS = "each rule is made a set for every two workloads, also where it says nothing of them"
+PORTS_OF_PAIRS = "the ports of a rule are found for every two workloads, although the one that is sent to alone decides them"
+PORTS_OF_RULES = "each rule holds the ports that its name stands for"
+PORTS_OF_BLOCKS = "the ports of the rule are held once for each of its blocks"
+WALKS = "the patterns are walked through for each workload, although the rules of all are the same"
+PATTERNS = "the rules are gone through for each pattern of the labels"
+SETS_OF_PATTERNS = "each pattern of the labels has a set of thousands of ports"
+ADDRESSES = "the rules are asked about all addresses for each workload, although these are of one kind"
+ADDRESSES_AGAIN = "the rules of each workload are asked about all addresses for each statement anew"
 KNOWN = {(name, command): why for name, commands, why in (
     ("longNames", "list", LONG_ANSWER),
     ("samePorts", "list", LONG_ANSWER),
+    ("pairPorts", "list", LONG_ANSWER),
     ("ignored", "list", "the JSON is held whole, and an object of one member takes more than 500 bytes of memory"),
-    ("mostBlocks", "list evaluate", "the JSON and the policies are held whole, at 50 bytes of memory for each byte"),
+    ("mostBlocks", "list explain exposure evaluate unused check flatten",
+     "the JSON and the policies are held whole, at 50 bytes of memory for each byte"),
     ("groupKeys", "list", PAIRS),
     ("groupKeys", "flatten", "each policy names all groups, and each group by all keys"),
+    ("adminRules", "list exposure unused check flatten", RULES_OF_PAIRS),
+    ("adminPortRules", "list exposure check flatten", RULES_OF_PAIRS),
+    ("podRules", "unused", RULES_OF_PAIRS),
+    ("pairPorts", "check flatten", PORTS_OF_PAIRS),
+    ("portNames", "list unused", PORTS_OF_PAIRS),
+    ("namedPortRules", "list explain exposure unused check", PORTS_OF_RULES),
+    ("blocksAndPorts", "list unused check flatten", PORTS_OF_BLOCKS),
+    ("exposurePods", "exposure", WALKS),
+    ("exposurePodPorts", "exposure", WALKS),
+    ("exposureStrangers", "exposure", WALKS),
+    ("exposureValues", "exposure", WALKS),
+    ("exposureKeys", "exposure", PATTERNS),
+    ("exposurePeers", "exposure", PATTERNS),
+    ("exposureNamespaces", "exposure", PATTERNS),
+    ("exposureKeyPorts", "exposure", SETS_OF_PATTERNS),
+    ("blockRules", "check", ADDRESSES),
+    ("blockStatements", "check", ADDRESSES_AGAIN),
 ) for command in commands.split()}
 
 
