@@ -109,8 +109,7 @@ def named_port_rules(count):
     return [pod("a", ports=[("h", 2 * i + 1) for i in range(count)]), pod("b"), to_all(*[{"ports": [{"port": "h"}]} for _ in range(count)])]
 
 
-@shape("podNetworks", (130000,), (3,), "a pod with {0:,} addresses, and a rule of an AdminNetworkPolicy with as many networks",
-       source="default/b")
+@shape("podNetworks", (130000,), (3,), "a pod with {0:,} addresses, and a rule of an AdminNetworkPolicy X
 def pod_networks(count):
     rule = {"action": "Deny", "to": [{"networks": [block(2 * i) for i in range(count)]}]}
     return [*cost.addresses(count), pod("b"), admin_policy("p", 1, egress=[rule])]
@@ -121,7 +120,7 @@ def pod_blocks(count):
     return [*cost.addresses(count), pod("b"), to_all({"from": [named_block(2 * i) for i in range(count)]})]
 
 
-@shape("mostNetworks", (600000,), (3,), "the pod and the rule of podNetworks, with {0:,} of each", source="default/b")
+@shape("mostNetworks", (600000,), (3,), "the pod and the rule of podNetworks, with {0:,} of each", but("flatten"), source="default/b")
 def most_networks(count):
     return pod_networks(count)
 

@@ -62,6 +62,7 @@ KNOWN = {(name, command): why for name, commands, why in (
     ("longNames", "list", LONG_ANSWER),
     ("samePorts", "list", LONG_ANSWER),
     ("pairPorts", "list", LONG_ANSWER),
+    ("blockRules", "list", LONG_ANSWER),
     ("ignored", "list", "the JSON is held whole, and an object of one member takes more than 500 bytes of memory"),
     ("mostBlocks", "list explain exposure evaluate unused check flatten",
      "the JSON and the policies are held whole, at 50 bytes of memory for each byte"),
