@@ -109,7 +109,8 @@ def named_port_rules(count):
     return [pod("a", ports=[("h", 2 * i + 1) for i in range(count)]), pod("b"), to_all(*[{"ports": [{"port": "h"}]} for _ in range(count)])]
 
 
-@shape("podNetworks", (130000,), (3,), "a pod with {0:,} addresses, and a rule of an AdminNetworkPolicy X
+@shape("podNetworks", (130000,), (3,), "a pod with {0:,} addresses, and a rule of an AdminNetworkPolicy with as many networks",
+       but("flatten"), source="default/b")
 def pod_networks(count):
     rule = {"action": "Deny", "to": [{"networks": [block(2 * i) for i in range(count)]}]}
     return [*cost.addresses(count), pod("b"), admin_policy("p", 1, egress=[rule])]
