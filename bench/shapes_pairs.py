@@ -4,9 +4,10 @@ from cost import pod
 from shape import admin_policy, block, but, labelled_pods, one_rule, own_policies, pods_with, pods_with_key, port_number, shape, to_all
 
 
-# Where nothing is forbidden, and where a policy lets in TCP alone: statements that hold, of every two pods.
+# Where nothing is forbidden, where policies let in TCP alone, and where they let in pods alone: statements that hold, of every two pods.
 ALL_ALLOWED = ("allow any pod => any pod : All Connections", "allow any address => any pod : TCP 80")
 TCP_ALONE = ("deny any pod => any pod : UDP 1-65535", "allow any pod => any pod : TCP 1")
+PODS_ALONE = ("allow any pod => any pod : All Connections", "deny any address => any pod : TCP 80")
 
 
 # Rules of one tier and many pods.
@@ -18,7 +19,7 @@ def block_rules(count, many):
 
 
 @shape("podRules", (2000, 78000), (3, 4), "{0:,} pods, and a policy of all of them with {1:,} rules of a pod each", target="default/p0",
-       source="default/p1")
+       source="default/p1", lines=lambda *_: PODS_ALONE)
 def pod_rules(count, many):
     return labelled_pods(count) + [to_all(*[{"from": [pods_with("app", "a%d" % (i % count))]} for i in range(many)])]
 
