@@ -59,7 +59,7 @@ def values(count):
     return cost.values(count)
 
 
-@shape("exposureValues", (65000,), (3,), "the same with {0:,} values", ("exposure",), target="default/p0")
+@shape("exposureValues", (21800,), (3,), "the same with {0:,} values", ("exposure",), target="default/p0")
 def exposure_values(count):
     return cost.values(count)
 
@@ -91,7 +91,7 @@ def strangers(count, peers):
     return [*labelled_pods(count), to_all({"from": [pods_with("app", "x%d" % i) for i in range(peers)]})]
 
 
-@shape("exposureStrangers", (2000, 65000), (3, 2), "the same with {1:,} peers", ("exposure",), target="default/p0")
+@shape("exposureStrangers", (2000, 21800), (3, 2), "the same with {1:,} peers", ("exposure",), target="default/p0")
 def exposure_strangers(count, peers):
     return strangers(count, peers)
 

@@ -33,7 +33,7 @@ def rules(count):
 
 
 @shape("strangerRules", (2000, 54000), (3, 2), "{0:,} pods, and {1:,} rules of one port each, whose peers match none of them",
-       target="default/p0", source="default/p1")
+       but("exposure"), target="default/p0", source="default/p1")
 def stranger_rules(count, many):
     return [*labelled_pods(count), to_all(*[one_rule([pods_with("app", "x%d" % i)], [i + 1]) for i in range(many)])]
 
@@ -108,7 +108,7 @@ def exposure_mixes(count, keys):
     return [*two_pods(), to_all(*[one_rule([mix((7 * i + 1) * 1009 % 3 ** keys)], [i % 60000 + 1]) for i in range(count)])]
 
 
-@shape("exposurePeers", (65000,), (3,), "the rule of peers with {0:,} of them", ("exposure",))
+@shape("exposurePeers", (21800,), (3,), "the rule of peers with {0:,} of them", ("exposure",))
 def exposure_peers(count):
     return peers(count)
 
