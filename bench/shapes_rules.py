@@ -1,7 +1,6 @@
 """The shapes of bench/slow.py whose policies, rules, peers or statements are many."""
 import itertools
 
-import cost
 from cost import NAME_KEY, policy
 from shape import (admin_policy, but, labelled_pods, named_block, one_rule, own_policies, pods_with, pods_with_key, port_rule, shape,
                    to_all, two_pods)
