@@ -1,12 +1,12 @@
 """The shapes of bench/slow.py in which many rules, ports, keys or statements meet many pods, so that their products count."""
 import cost
-from cost import pod
 from shape import admin_policy, block, but, labelled_pods, one_rule, own_policies, pods_with, pods_with_key, port_number, shape, to_all
 
 
-# Where nothing is forbidden, where policies let in TCP alone, and where they let in pods alone: statements that hold, of every two pods.
+# Where nothing is forbidden, and where policies let in TCP alone, pods alone, or nothing: statements that hold, of every two pods.
 ALL_ALLOWED = ("allow any pod => any pod : All Connections", "allow any address => any pod : TCP 80")
 TCP_ALONE = ("deny any pod => any pod : UDP 1-65535", "allow any pod => any pod : TCP 1")
+PODS_SHUT = ("deny any pod => any pod : All Connections", "deny any address => any pod : All Connections")
 PODS_ALONE = ("allow any pod => any pod : All Connections", "deny any address => any pod : TCP 80")
 
 
@@ -57,11 +57,10 @@ def pair_ports(count, entries):
     return labelled_pods(count) + [to_all(one_rule([pods_with_key("app")], [2 * i + 1 for i in range(entries)]))]
 
 
-@shape("portNames", (2000, 250000), (3, 4), "{0:,} pods with a named port each, and a rule for all of them with {1:,} names of ports",
-       but("flatten"), target="default/p0", source="default/p1")
+@shape("portNames", (2000, 250000), (3, 4), "{0:,} pods that a label tells apart, and a rule for all of them with {1:,} names of ports, of"
+       " which no pod has one", target="default/p0", source="default/p1", lines=lambda *_: PODS_SHUT)
 def port_names(count, names):
-    pods = [pod("p%d" % i, labels={"app": "a%d" % i}, ports=[("n%d" % (i % names), i + 1)]) for i in range(count)]
-    return pods + [to_all({"ports": [{"port": "n%d" % i} for i in range(names)]})]
+    return labelled_pods(count) + [to_all(one_rule([pods_with_key("app")], ["n%d" % i for i in range(names)]))]
 
 
 # Keys and many pods.
