@@ -77,6 +77,7 @@ KNOWN = {(name, command): why for name, commands, why in (
     ("portNames", "list unused", PORTS_OF_PAIRS),
     ("namedPortRules", "list explain exposure unused check", PORTS_OF_RULES),
     ("blocksAndPorts", "list unused check flatten", PORTS_OF_BLOCKS),
+    ("blockRules", "exposure", WALKS),
     ("exposurePods", "exposure", WALKS),
     ("exposurePodPorts", "exposure", WALKS),
     ("exposureStrangers", "exposure", WALKS),
