@@ -74,7 +74,7 @@ KNOWN = {(name, command): why for name, commands, why in (
     ("strangerRules", "unused", "each rule is made a set of addresses for each workload, also where it has none"),
     ("manyLines", "check", "every two workloads are looked at for each statement"),
     ("pairPorts", "check flatten", PORTS_OF_PAIRS),
-    ("portNames", "list unused", PORTS_OF_PAIRS),
+    ("portNames", "list exposure unused check flatten", PORTS_OF_PAIRS),
     ("namedPortRules", "list explain exposure unused check", PORTS_OF_RULES),
     ("blocksAndPorts", "list unused check flatten", PORTS_OF_BLOCKS),
     ("blockRules", "exposure", WALKS),
