@@ -1,7 +1,8 @@
-"""What a shape of bench/slow.py is, and what shapes are made of. The shapes themselves are in shapes_pods.py and shapes_rules.py.
+"""What a shape of bench/slow.py is, and what shapes are made of. The shapes themselves are in shapes_pods.py, shapes_rules.py and
+shapes_pairs.py.
 
-A shape is a function that makes the objects. With it go its sizes (and tiny ones, at which it only shows that np takes it), a text that
-says what it is, and the commands that it is measured with.
+A shape is a function of its sizes that makes the objects. With it go the sizes at which its input has 5 MB, or is at a limit of np before
+that, tiny ones, at which it only shows that np takes it, a text that says what it is, and the commands that it is measured with.
 """
 import collections
 
@@ -12,16 +13,24 @@ LINES = ("allow any pod => any address : TCP 80", "deny any address => any pod :
 
 # `evaluate` asks from the pod or address `source` to the pod `target`, and `explain` from `source` to `workload`, which is that of the
 # target; a source that is a pod is its own workload. `lines` makes the lines of the statement file. `refused`: np has to refuse it.
-Shape = collections.namedtuple("Shape", "make full tiny says commands source target workload lines refused")
+# `grows` has the places of the sizes that are halved where the growth is measured: all, but where the input is as their product, or where
+# the cost of one is known to double with each step of it.
+Shape = collections.namedtuple("Shape", "make full tiny says commands source target workload lines refused grows")
 SHAPES = {}
 
 
-def shape(name, full, tiny, says, commands=COMMANDS, source="10.0.0.1", target="default/a", workload=None, lines=None, refused=False):
+def shape(name, full, tiny, says, commands=COMMANDS, source="10.0.0.1", target="default/a", workload=None, lines=None, refused=False,
+          grows=None):
     def enter(make):
         SHAPES[name] = Shape(make, full, tiny, says.format(*full), commands, source, target, workload or target + "[Pod]",
-                             lines or (lambda *_: LINES), refused)
+                             lines or (lambda *_: LINES), refused, range(len(full)) if grows is None else grows)
         return make
     return enter
+
+
+def divided(one, sizes, part):
+    """The sizes of a shape at a half of these, a quarter, and so on."""
+    return tuple(max(1, size // part) if place in one.grows else size for place, size in enumerate(sizes))
 
 
 def but(*left_out):
@@ -98,6 +107,17 @@ def named_block(i, length=32):
     return {"ipBlock": {"cidr": block(i, length)}}
 
 
+def port_number(number):
+    """A port entry of an AdminNetworkPolicy."""
+    return {"portNumber": {"protocol": "TCP", "port": number}}
+
+
 def port_rule(action, number):
     """A rule of an AdminNetworkPolicy for one port of all pods."""
-    return {"action": action, "from": [{"namespaces": {}}], "ports": [{"portNumber": {"protocol": "TCP", "port": number}}]}
+    return {"action": action, "from": [{"namespaces": {}}], "ports": [port_number(number)]}
+
+
+def own_policies(count):
+    """Pods with a policy each, which lets in one other."""
+    return labelled_pods(count) + [policy("p%d" % i, {**pods_with("app", "a%d" % i), "ingress": [
+        {"from": [pods_with("app", "a%d" % (i * 7 % count))], "ports": [{"protocol": "TCP", "port": 80}]}]}) for i in range(count)]

@@ -42,7 +42,7 @@ def namespaces(count, pods):
     return [namespace("n%d" % i, {"x": "y%d" % i}) for i in range(count - 1)] + [pod("p", "n%d" % i) for i in range(pods)] + [shut]
 
 
-@shape("longNames", (2000, 15000), (3, 10), "{0:,} pods with names of {1:,} letters", commands=("list", "evaluate", "check"))
+@shape("longNames", (2000, 15000), (3, 10), "{0:,} pods with names of {1:,} letters", grows=(1,))
 def long_names(count, letters):
     return [pod("a")] + [pod("%0*d" % (letters, i)) for i in range(1, count)]
 
@@ -54,12 +54,17 @@ def ignored(count):
 
 # Labels and selectors.
 
-@shape("values", (10000,), (3,), "one selector with {0:,} values, over 500 pods", target="default/p0")
+@shape("values", (500000,), (3,), "one selector with {0:,} values, over 500 pods", but("exposure"), target="default/p0")
 def values(count):
     return cost.values(count)
 
 
-@shape("labels", (10000,), (3,), "a pod with {0:,} labels, and a selector with a requirement for each of them", but("exposure"))
+@shape("exposureValues", (21800,), (3,), "the same with {0:,} values", ("exposure",), target="default/p0")
+def exposure_values(count):
+    return cost.values(count)
+
+
+@shape("labels", (80000,), (3,), "a pod with {0:,} labels, and a selector with a requirement for each of them", but("exposure"))
 def labels(count):
     many = {"k%05d" % i: "v" for i in range(count)}
     keys = {"podSelector": {"matchExpressions": [{"key": k, "operator": "Exists"} for k in many]}}
@@ -80,67 +85,61 @@ def selector_keys(count, pods):
     return [*owned_pods(pods, {"app": "a", "k00001": "v"}), to_all({"from": [pods_with_key("k%05d" % i) for i in range(count)]})]
 
 
-@shape("groupKeys", (2000, 5000), (3, 4), "{0:,} workloads that a label tells apart, and a rule with {1:,} peers, each of another key",
-       ("list", "unused", "flatten"), target="default/p0")
-def group_keys(count, keys):
-    return [*labelled_pods(count), to_all({"from": [pods_with_key("k%05d" % i) for i in range(keys)] + [pods_with_key("app")]})]
-
-
-@shape("strangers", (2000, 500), (3, 2), "{0:,} pods, and a rule with {1:,} peers that match none of them", target="default/p0")
+@shape("strangers", (2000, 90000), (3, 2), "{0:,} pods, and a rule with {1:,} peers that match none of them", but("exposure"),
+       target="default/p0")
 def strangers(count, peers):
     return [*labelled_pods(count), to_all({"from": [pods_with("app", "x%d" % i) for i in range(peers)]})]
 
 
-@shape("manyStrangers", (2000, 60000), (3, 2), "the same with {1:,} peers", ("list",))
-def many_strangers(count, peers):
+@shape("exposureStrangers", (2000, 21800), (3, 2), "the same with {1:,} peers", ("exposure",), target="default/p0")
+def exposure_strangers(count, peers):
     return strangers(count, peers)
 
 
 # Ports and addresses.
 
-@shape("ports", (10000,), (3,), "a pod with {0:,} named ports, and a rule with an entry for each name", but("flatten"))
+@shape("ports", (65000,), (3,), "a pod with {0:,} named ports, and a rule with an entry for each name", but("flatten"))
 def ports(count):
     return cost.ports(count)
 
 
-@shape("namedPortRules", (10000,), (3,), "a pod with {0:,} container ports of one name and different numbers, and as many rules with that"
-       " name", ("list", "explain", "evaluate", "unused"), source="default/b")
+@shape("namedPortRules", (32000,), (3,), "a pod with {0:,} container ports of one name and different numbers, and as many rules with that"
+       " name", but("flatten"), source="default/b")
 def named_port_rules(count):
     return [pod("a", ports=[("h", 2 * i + 1) for i in range(count)]), pod("b"), to_all(*[{"ports": [{"port": "h"}]} for _ in range(count)])]
 
 
-@shape("podNetworks", (60000,), (3,), "a pod with {0:,} addresses, and a rule of an AdminNetworkPolicy with as many networks",
-       ("list", "explain", "evaluate", "unused"), source="default/b")
+@shape("podNetworks", (130000,), (3,), "a pod with {0:,} addresses, and a rule of an AdminNetworkPolicy with as many networks",
+       but("flatten"), source="default/b")
 def pod_networks(count):
     rule = {"action": "Deny", "to": [{"networks": [block(2 * i) for i in range(count)]}]}
     return [*cost.addresses(count), pod("b"), admin_policy("p", 1, egress=[rule])]
 
 
-@shape("podBlocks", (60000,), (3,), "a pod with {0:,} addresses, and a rule of a NetworkPolicy with as many blocks",
-       ("list", "explain", "evaluate"))
+@shape("podBlocks", (83000,), (3,), "a pod with {0:,} addresses, and a rule of a NetworkPolicy with as many blocks")
 def pod_blocks(count):
     return [*cost.addresses(count), pod("b"), to_all({"from": [named_block(2 * i) for i in range(count)]})]
 
 
-@shape("mostNetworks", (600000,), (3,), "the pod and the rule of podNetworks, with {0:,} of each", ("list", "evaluate"), source="default/b")
+@shape("mostNetworks", (600000,), (3,), "the pod and the rule of podNetworks, with {0:,} of each", but("flatten"), source="default/b")
 def most_networks(count):
     return pod_networks(count)
 
 
-@shape("mostBlocks", (500000,), (3,), "the pod and the rule of podBlocks, with {0:,} of each", ("list", "evaluate"))
+@shape("mostBlocks", (500000,), (3,), "the pod and the rule of podBlocks, with {0:,} of each")
 def most_blocks(count):
     return pod_blocks(count)
 
 
 # Services and Ingresses.
 
-@shape("servicePorts", (10000,), (3,), "a Service with {0:,} ports, and an Ingress with a backend for each")
+@shape("servicePorts", (45000,), (3,), "a Service with {0:,} ports, and an Ingress with a backend for each")
 def service_ports(count):
     entries = [{"name": "n%d" % i, "port": i + 1, "targetPort": i + 1} for i in range(count)]
     return [*two_pods(), service("s", entries, {"app": "a"}), ingress([("s", {"name": e["name"]}) for e in entries])]
 
 
-@shape("backends", (20000,), (3,), "an Ingress with {0:,} backends of one Service")
+@shape("backends", (80000,), (3,), "an Ingress with {0:,} backends of one Service")
 def backends(count):
     return [*two_pods(), service("s", [{"port": 80}], {"app": "a"}), ingress([("s", {"number": 80})] * count)]
 
@@ -159,12 +158,12 @@ def routes(count, name, number):
     return pods + [service("s", entries, {"app": "a"}), ingress([("s", {"name": e["name"]}) for e in entries])]
 
 
-@shape("equalRoutes", (2000,), (3,), "a pod with {0:,} container ports of one name and number, a Service with as many ports that lead to"
+@shape("equalRoutes", (38000,), (3,), "a pod with {0:,} container ports of one name and number, a Service with as many ports that lead to"
        " that name, and an Ingress with as many backends that name one of them")
 def equal_routes(count):
     return routes(count, lambda i: "h", lambda i: 80)
 
 
-@shape("namedRoutes", (10000,), (3,), "the same with {0:,} of each, whose names and numbers all differ")
+@shape("namedRoutes", (33000,), (3,), "the same with {0:,} of each, whose names and numbers all differ")
 def named_routes(count):
     return routes(count, lambda i: "h%d" % i, lambda i: i + 1)

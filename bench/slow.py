@@ -1,18 +1,23 @@
 #!/usr/bin/env python3
 """What the limits of input cost: bench/slow.py [--program dist/np] [--seconds 60] [--table | --write] [--results FILE] [--tiny] [NAME..]
 
-Each shape is an input that is at a limit of what np reads (20,000 objects, 2,000 workloads, 32 MiB) in one of its parts; shapes_pods.py and
-shapes_rules.py make them. Each is measured with the commands that it is hard for, one run after the other: the seconds of processor time,
-the status, the greatest memory, and how many bytes were printed. What breaks the bounds is told:
+Each shape is an input that is hard in one of its parts, of 5 MB, or at a limit of what np reads (20,000 objects, 2,000 workloads, 32 MiB);
+shapes_pods.py, shapes_rules.py and shapes_pairs.py make them. Each is measured with the commands, one run after the other: the seconds of
+processor time, the status, the greatest memory, and how many bytes were printed. What breaks the bounds is told:
 
 slow     it took longer than --seconds, and was ended
 large    it took more than 1 GB, or ended because it had no more than the 2,000,000 kB that it is given
 refused  there was no answer, so that nothing was measured
 
+Then each that took more than a second or 100 MB is run at half the size, to tell how it grows; one that has no answer is tried at a half of
+its size, at a quarter and at an eighth, until there is one, and at half of that.
+
 --table      prints all of it as Markdown, and --write puts that into docs/develop/LIMITS.md
 --results    keeps each run in a file, and takes those that are there already from it, so that an interrupted measurement goes on; another
              program wants another file
 --tiny       takes tiny inputs of the same forms, which shows that np takes them
+--whole      measures nothing at smaller sizes
+--size       the sizes of the one shape that is named, as 700,20000, instead of its full ones
 --names      prints the names of the shapes, with what they are
 
 The status is 1 where a run breaks the bounds that is not in the list KNOWN, or is refused. No time is promised to users: the numbers tell
@@ -20,198 +25,152 @@ what the limits cost, on one machine, in one measurement.
 """
 import argparse
 import importlib
-import itertools
 import json
 import multiprocessing
 import os
-import resource
-import signal
-import subprocess
 import sys
 import tempfile
-import time
 
 TOP = os.path.join(os.path.dirname(os.path.abspath(__file__)), "..")
 sys.path.insert(0, os.path.join(TOP, "bench"))
 from cost import listing  # noqa: E402
-from shape import SHAPES  # noqa: E402
+from shape import SHAPES, divided  # noqa: E402
+from slow_runs import PARTS, breach, next_part, run  # noqa: E402
+from slow_tables import SECONDS, Measured, growth_line, growth_of, line_of, table  # noqa: E402
 
 # Each enters its shapes.
-for module in ("shapes_pods", "shapes_rules"):
+for module in ("shapes_pods", "shapes_rules", "shapes_pairs"):
     importlib.import_module(module)
 
 DOCUMENT = os.path.join(TOP, "docs", "develop", "LIMITS.md")
 BEGIN = "<!-- The tables begin here. bench/slow.py --write makes them. -->"
 END = "<!-- The tables end here. -->"
-MOST_BYTES = 2000000 * 1024
-SECONDS = 60
-LARGE = 1000000000
-# Ordinary clusters take at most so many times the bytes that are read; little memory is not compared, since the program itself takes some.
-TIMES = 80
-LITTLE = 30000000
 
 # The runs that are known to break the bounds, and why. One that does so and is not here is a finding.
 LONG_ANSWER = "the answer is as long as that"
 PAIRS = "the peers are asked about every two workloads"
+RULES_OF_PAIRS = "each rule is made a set for every two workloads, also where it says nothing of them"
+PORTS_OF_PAIRS = "the ports of a rule are found for every two workloads, although the one that is sent to alone decides them"
+PORTS_OF_RULES = "each rule holds the ports that its name stands for"
+PORTS_OF_BLOCKS = "the ports of the rule are held once for each of its blocks"
+WALKS = "the patterns are walked through for each workload, although the rules of all are the same"
+PATTERNS = "the rules are gone through for each pattern of the labels"
+SETS_OF_PATTERNS = "each pattern of the labels has a set of thousands of ports"
+ADDRESSES = "the rules are asked about all addresses for each workload, although these are of one kind"
+ADDRESSES_AGAIN = "the rules of each workload are asked about all addresses for each statement anew"
 KNOWN = {(name, command): why for name, commands, why in (
     ("longNames", "list", LONG_ANSWER),
     ("samePorts", "list", LONG_ANSWER),
+    ("pairPorts", "list", LONG_ANSWER),
+    ("blockRules", "list", LONG_ANSWER),
     ("ignored", "list", "the JSON is held whole, and an object of one member takes more than 500 bytes of memory"),
-    ("mostBlocks", "list evaluate", "the JSON and the policies are held whole, at 50 bytes of memory for each byte"),
+    ("mostBlocks", "list explain exposure evaluate unused check flatten",
+     "the JSON and the policies are held whole, at 50 bytes of memory for each byte"),
     ("groupKeys", "list", PAIRS),
     ("groupKeys", "flatten", "each policy names all groups, and each group by all keys"),
+    ("adminRules", "list exposure unused check flatten", RULES_OF_PAIRS),
+    ("adminPortRules", "list exposure check flatten", RULES_OF_PAIRS),
+    ("podRules", "list exposure unused check flatten", RULES_OF_PAIRS),
+    ("strangerRules", "unused", "each rule is made a set of addresses for each workload, also where it has none"),
+    ("manyLines", "check", "every two workloads are looked at for each statement"),
+    ("pairPorts", "check flatten", PORTS_OF_PAIRS),
+    ("portNames", "list exposure unused check flatten", PORTS_OF_PAIRS),
+    ("namedPortRules", "list explain exposure unused check", PORTS_OF_RULES),
+    ("blocksAndPorts", "list unused check flatten", PORTS_OF_BLOCKS),
+    ("blockRules", "exposure", WALKS),
+    ("exposurePods", "exposure", WALKS),
+    ("exposurePodPorts", "exposure", WALKS),
+    ("exposureStrangers", "exposure", WALKS),
+    ("exposureValues", "exposure", WALKS),
+    ("exposureKeys", "exposure", PATTERNS),
+    ("exposurePeers", "exposure", PATTERNS),
+    ("exposureNamespaces", "exposure", PATTERNS),
+    ("exposureKeyPorts", "exposure", SETS_OF_PATTERNS),
+    ("blockRules", "check", ADDRESSES),
+    ("blockStatements", "check", ADDRESSES_AGAIN),
 ) for command in commands.split()}
 
 
-def words_of(shape, command, objects, statements):
+def words_of(shape, size, command, objects, statements):
     ends = [shape.source, shape.source + "[Pod]" if "/" in shape.source else shape.source]
     return [command, *{"explain": ["--from", ends[1], "--to", shape.workload],
                        "evaluate": ["--from", ends[0], "--to", shape.target, "--protocol", "TCP", "--port", "80"],
                        "check": ["--statement", statements],
-                       "sample": [str(shape.full[0])]}.get(command, []), *([] if command == "sample" else [objects])]
+                       "sample": [str(size[0])]}.get(command, []), *([] if command == "sample" else [objects])]
 
 
-def write_files(name, tiny, objects, statements):
+def write_files(name, size, objects, statements):
     """Makes the files of a shape. It runs in a process of its own: what is measured begins as a copy of this one, with its memory."""
     shape = SHAPES[name]
-    size = shape.tiny if tiny else shape.full
     with open(objects, "w") as f:
         f.write(json.dumps(listing(shape.make(*size)), separators=(",", ":")))
     with open(statements, "w") as f:
         f.writelines(line + "\n" for line in shape.lines(*size))
 
 
-def run(words, seconds):
-    """What a run took, and how it ended."""
-    def bounded():
-        resource.setrlimit(resource.RLIMIT_CPU, (seconds, seconds))
-        resource.setrlimit(resource.RLIMIT_AS, (MOST_BYTES, MOST_BYTES))
-        resource.setrlimit(resource.RLIMIT_CORE, (0, 0))
-    with tempfile.TemporaryFile() as said:
-        process = subprocess.Popen(words, stdin=subprocess.DEVNULL, stdout=subprocess.PIPE, stderr=said, preexec_fn=bounded)
-        printed = 0
-        while chunk := os.read(process.stdout.fileno(), 1 << 20):
-            printed += len(chunk)
-        process.stdout.close()
-        _, status, used = os.wait4(process.pid, 0)
-        said.seek(0)
-        fault = said.readline(200).decode(errors="replace").strip()
-    return {"took": used.ru_utime + used.ru_stime, "status": os.waitstatus_to_exitcode(status), "memory": used.ru_maxrss * 1024,
-            "printed": printed, "fault": fault if fault.startswith("error:") else "", "seconds": seconds}
+def made_files(folder, name, size):
+    files = [os.path.join(folder, "objects.json"), os.path.join(folder, "statements")]
+    maker = multiprocessing.get_context("fork").Process(target=write_files, args=(name, size, *files))
+    maker.start()
+    maker.join()
+    if maker.exitcode:
+        sys.exit("the shape %s could not be made" % name)
+    return files
 
 
-def breach(done, refused):
-    """Which bounds a run breaks."""
-    slow = done["status"] in (-signal.SIGXCPU, -signal.SIGKILL) or done["took"] > done["seconds"]
-    large = done["memory"] > LARGE or done["status"] in (4, -signal.SIGABRT)
-    if slow or large:
-        return ", ".join(["slow"] * slow + ["large"] * large)
-    return "refused" if (done["status"] not in (0, 5) or done["fault"] != "") != refused else ""
-
-
-def measure(program, name, tiny, seconds, kept):
-    """All runs of a shape: those that are kept, and the others."""
-    shape = SHAPES[name]
+def measure(program, name, size, commands, seconds):
+    """The runs of a shape at a size with some commands."""
     with tempfile.TemporaryDirectory() as folder:
-        files = [os.path.join(folder, "objects.json"), os.path.join(folder, "statements")]
-        if any((name, c) not in kept for c in shape.commands):
-            maker = multiprocessing.get_context("fork").Process(target=write_files, args=(name, tiny, *files))
-            maker.start()
-            maker.join()
-            if maker.exitcode:
-                sys.exit("the shape %s could not be made" % name)
-        for command in shape.commands:
-            done = kept.get((name, command))
-            if not done:
-                done = run([program, *words_of(shape, command, *files)], seconds)
-                read = files if command == "check" else files[:1] if command != "sample" else []
-                done.update(name=name, command=command, read=sum(os.path.getsize(f) for f in read))
-            yield done, breach(done, shape.refused)
+        files = made_files(folder, name, size)
+        for command in commands:
+            done = run([program, *words_of(SHAPES[name], size, command, *files)], seconds)
+            read = files if command == "check" else files[:1] if command != "sample" else []
+            done.update(name=name, command=command, size=size, read=sum(os.path.getsize(f) for f in read))
+            yield done
 
 
-def size_of(count):
-    """A number of bytes with a unit of thousands, in three digits or so."""
-    for unit, one in (("GB", 1e9), ("MB", 1e6), ("kB", 1e3)):
-        if count >= one:
-            return "%.*f %s" % (1 if count < 100 * one else 0, count / one, unit)
-    return "%d B" % count
+class Runs:
+    """All runs so far, by shape, command and size, and the file that keeps them."""
+
+    def __init__(self, path):
+        self.path = path
+        self.kept = {}
+        if path and os.path.exists(path):
+            with open(path) as f:
+                self.kept = {(done["name"], done["command"], tuple(done["size"])): done for done in map(json.loads, f)}
+
+    def keep(self, done):
+        self.kept[done["name"], done["command"], tuple(done["size"])] = done
+        if self.path:
+            with open(self.path, "a") as f:
+                f.write(json.dumps(done) + "\n")
+
+    def measured(self, name, command, size):
+        """What there is of a command at a size and at parts of it."""
+        sizes = {part: divided(SHAPES[name], size, part) for part in PARTS}
+        parts = {part: self.kept[name, command, one] for part, one in sizes.items() if (name, command, one) in self.kept}
+        broken = breach(parts[1], SHAPES[name].refused) if 1 in parts else ""
+        return Measured(name, command, parts, broken, KNOWN.get((name, command), ""))
 
 
-def ending_of(done):
-    if done["status"] in (-signal.SIGXCPU, -signal.SIGKILL):
-        return "> %d s" % done["seconds"], "ended"
-    return "%.2f s" % done["took"], str(done["status"]) if done["status"] >= 0 else signal.Signals(-done["status"]).name
+def measure_whole(given, runs, name, size, out):
+    """Makes the runs of a shape at its whole size, but for those that are kept, and tells all."""
+    commands = SHAPES[name].commands
+    wanted = [command for command in commands if (name, command, size) not in runs.kept]
+    for done in measure(given.program, name, size, wanted, given.seconds) if wanted else ():
+        runs.keep(done)
+        one = runs.measured(name, done["command"], size)
+        print(line_of(done, one.broken, one.known), flush=True, file=out)
 
 
-def line_of(done, broken):
-    took, ending = ending_of(done)
-    known = KNOWN.get((done["name"], done["command"]))
-    told = " ".join([broken, "(known)" if broken and known else "", done["fault"][:60] if broken else ""])
-    read, memory, printed = (size_of(done[what]) for what in ("read", "memory", "printed"))
-    line = "%-20s %8s read  %-8s %9s  %-7s %8s  %8s printed  %s"
-    return (line % (done["name"], read, done["command"], took, ending, memory, printed, told)).rstrip()
-
-
-def row(*cells):
-    return "| %s |" % " | ".join(cells)
-
-
-def under(columns):
-    return "|" + "---|" * columns
-
-
-def words_joined(runs):
-    return ", ".join(done["command"] for done in runs)
-
-
-def most(runs, what):
-    return size_of(max(done[what] for done in runs))
-
-
-def processor():
-    with open("/proc/cpuinfo") as f:
-        return next((line.split(":", 1)[1].strip() for line in f if line.startswith("model name")), "a processor that has no name")
-
-
-def table(runs):
-    """All that was measured, as Markdown."""
-    version = open(os.path.join(TOP, "VERSION")).read().strip()
-    day = time.strftime("%-d %B %Y", time.gmtime())
-    given = " or ".join(str(s) for s in sorted({done["seconds"] for done, _ in runs}))
-    lines = ["Measured on %s with version %s of the program, on one of %d processors (%s). Each run had %s seconds of processor time, and"
-             " %s of address space." % (day, version, os.cpu_count(), processor(), given, size_of(MOST_BYTES)),
-             "", "### What breaks the bounds", ""]
-    if any("slow" in how and done["seconds"] < SECONDS for done, how in runs):
-        lines += ["Runs that were ended before %d seconds count as slow; some of them might have had an answer by then." % SECONDS, ""]
-    broken = [(done["name"], how, KNOWN.get((done["name"], done["command"]), "**not known yet**"), done) for done, how in runs if how]
-    if broken:
-        lines += ["Where commands share a row, the numbers are the greatest of them.", "",
-                  row("shape", "command", "bound", "time", "memory", "printed", "why"), under(7)]
-    for (name, how, why), alike in itertools.groupby(broken, lambda one: one[:3]):
-        together = [one[3] for one in alike]
-        took = ending_of(max(together, key=lambda done: done["took"]))[0]
-        lines.append(row(name, words_joined(together), how, took, most(together, "memory"), most(together, "printed"), why))
-    if not broken:
-        lines.append("Nothing does.")
-    fine = ["%s with %s" % (done["command"], done["name"]) for done, how in runs if not how and (done["name"], done["command"]) in KNOWN]
-    if fine:
-        lines += ["", "Listed as breaking a bound, and within all of them here: %s." % ", ".join(fine)]
-    lines += ["", "### What takes more memory than its size explains", "",
-              "More than %s, and more than %d times the bytes that were read:" % (size_of(LITTLE), TIMES), "",
-              row("shape", "command", "read", "memory", "times"), under(5)]
-    large = [done for done, _ in runs if done["read"] and done["memory"] > max(LITTLE, TIMES * done["read"])]
-    for name, alike in itertools.groupby(large, lambda done: done["name"]):
-        together = list(alike)
-        times = max(done["memory"] / done["read"] for done in together)
-        lines.append(row(name, words_joined(together), most(together, "read"), most(together, "memory"), "%d" % times))
-    lines += ["", "### The shapes", "", row("shape", "what it is"), under(2)]
-    measured = {done["name"] for done, _ in runs}
-    lines += [row(name, shape.says) for name, shape in SHAPES.items() if name in measured]
-    lines += ["", "### All runs", "", row("shape", "read", "command", "time", "status", "memory", "printed", "bound"), under(8)]
-    for done, how in runs:
-        read, memory, printed = (size_of(done[what]) for what in ("read", "memory", "printed"))
-        lines.append(row(done["name"], read, done["command"], *ending_of(done), memory, printed, how))
-    return "\n".join(lines) + "\n"
+def measure_parts(given, runs, name, size, out):
+    """Makes the runs of a shape at parts of its size, as far as they are wanted to tell how it grows."""
+    for part in PARTS[1:]:
+        measured = [runs.measured(name, command, size) for command in SHAPES[name].commands]
+        wanted = [one.command for one in measured if next_part(one.parts) == part]
+        for done in measure(given.program, name, divided(SHAPES[name], size, part), wanted, given.seconds) if wanted else ():
+            runs.keep(done)
+            print(line_of(done, "", ""), flush=True, file=out)
 
 
 def put_into_document(text):
@@ -221,7 +180,7 @@ def put_into_document(text):
         f.write("%s%s\n\n%s\n%s%s" % (before, BEGIN, text, END, rest.split(END)[1]))
 
 
-def main():
+def words_given():
     words = argparse.ArgumentParser(description=__doc__, formatter_class=argparse.RawDescriptionHelpFormatter)
     words.add_argument("--program", default=os.path.join(TOP, "dist", "np"))
     words.add_argument("--seconds", type=int, default=SECONDS)
@@ -229,32 +188,40 @@ def main():
     words.add_argument("--write", action="store_true")
     words.add_argument("--results", metavar="FILE")
     words.add_argument("--tiny", action="store_true")
+    words.add_argument("--whole", action="store_true")
+    words.add_argument("--size", type=lambda text: tuple(map(int, text.split(","))))
     words.add_argument("--names", action="store_true")
     words.add_argument("names_given", nargs="*", metavar="NAME")
     given = words.parse_args()
     unknown = [n for n in given.names_given if n not in SHAPES]
     if unknown:
         words.error("no shape is named %s" % unknown[0])
-    if given.write and (given.names_given or given.tiny):
-        words.error("the document has all shapes at their full sizes")
+    if given.size and (len(given.names_given) != 1 or len(given.size) != len(SHAPES[given.names_given[0]].full)):
+        words.error("--size wants one shape, and as many numbers as it has")
+    if given.write and (given.names_given or given.tiny or given.whole):
+        words.error("the document has all shapes at their full sizes, and how they grow")
+    return given
+
+
+def main():
+    given = words_given()
     if given.names:
         return print("\n".join("%-20s %s" % (name, shape.says) for name, shape in SHAPES.items()))
-    kept, runs = {}, []
-    if given.results and os.path.exists(given.results):
-        with open(given.results) as f:
-            kept = {(done["name"], done["command"]): done for done in map(json.loads, f)}
-    for name in given.names_given or SHAPES:
-        for done, how in measure(given.program, name, given.tiny, given.seconds, kept):
-            runs.append((done, how))
-            print(line_of(done, how), flush=True, file=sys.stderr if given.table else sys.stdout)
-            if given.results and (name, done["command"]) not in kept:
-                with open(given.results, "a") as f:
-                    f.write(json.dumps(done) + "\n")
+    runs, out = Runs(given.results), sys.stderr if given.table else sys.stdout
+    sizes = {name: given.size or (SHAPES[name].tiny if given.tiny else SHAPES[name].full) for name in given.names_given or SHAPES}
+    for name, size in sizes.items():
+        measure_whole(given, runs, name, size, out)
+    for name, size in sizes.items() if not (given.tiny or given.whole) else ():
+        measure_parts(given, runs, name, size, out)
+    measured = [runs.measured(name, command, size) for name, size in sizes.items() for command in SHAPES[name].commands]
+    for one in measured:
+        if growth_of(one):
+            print(growth_line(one), file=out)
     if given.table:
-        print(table(runs), end="")
+        print(table(measured), end="")
     if given.write:
-        put_into_document(table(runs))
-    if any(how == "refused" or how and (done["name"], done["command"]) not in KNOWN for done, how in runs):
+        put_into_document(table(measured))
+    if any(one.broken == "refused" or one.broken and not one.known for one in measured):
         sys.exit(1)
 
 

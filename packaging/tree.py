@@ -56,12 +56,12 @@ class Tree:
         (self.folder / name).symlink_to(target)
 
     def _put_programs(self) -> None:
-        names = ["dist/np", "kubectl-np", "np-page", "completion/kubectl_complete-np"]
+        names = ["dist/np", "np-wasm", "kubectl-np", "np-page", "completion/kubectl_complete-np"]
         self._put("bin", [self.source / name for name in names], 0o755)
         # Who installed np asks for the kit and the digest; those of the sources are in the repository.
         lines = (self.source / "dist" / "manifest").read_bytes().splitlines(keepends=True)
         self._write("share/np/manifest", b"".join(lines[:2]))
-        self._put("share/np", [self.source / "dist" / name for name in ("np.html", "np.wasm", "np.wasm.manifest")])
+        self._put("share/np", [self.source / "dist" / name for name in ("np.cdx.json", "np.html", "np.mjs", "np.wasm", "np.wasm.manifest")])
 
     def _put_completion(self) -> None:
         completion = self.source / "completion"

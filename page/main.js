@@ -248,6 +248,18 @@ function build() {
                 + 'The page itself only lays out, filters and searches.')));
 }
 
+// A picture is as wide as the window, also when that gets another width.
+function listenForWidth() {
+    let width = innerWidth, waiting = 0;
+    window.addEventListener('resize', () => {
+        clearTimeout(waiting);
+        waiting = setTimeout(() => {
+            if (width !== innerWidth && document.querySelector('#view svg')) draw();
+            width = innerWidth;
+        }, 200);
+    });
+}
+
 // Shows what np answered, in the place of what was shown.
 function show(answered) {
     const isFirst = !page;
@@ -257,6 +269,7 @@ function show(answered) {
     if (isFirst) {
         document.addEventListener('keydown', pressed);
         listenForPrint();
+        listenForWidth();
         window.addEventListener('hashchange', () => { app.state = readState(location.hash); app.typed = ''; draw(); });
     }
     draw();

@@ -32,7 +32,7 @@ def workloads(program: Program, path: Path) -> List[str]:
     """
     with path.open("rb") as file:
         try:
-            rows = children.Stream([program.path, "list", "--report", "1"], stdin=file)
+            rows = children.Stream([*program.command, "list", "--report", "1"], stdin=file)
         except OSError as error:
             stop(3, "%s cannot be run: %s" % (program.name, error.strerror))
         names = rows.found(_FIRST_ROWS)

@@ -6,7 +6,7 @@ import sys
 from pathlib import Path
 from typing import IO, Callable, List, Optional
 
-from plugin import children, parts
+from plugin import children, machine, parts
 from plugin.said import Stop, decoded, encoded, relay, stop, write
 
 
@@ -16,12 +16,14 @@ _CLOSED_PIPE = 141
 
 
 class Program:
-    """np, by its path: that of KUBECTL_NP_PROGRAM, or beside the plugin, links followed."""
+    """np, by its path: that of KUBECTL_NP_PROGRAM, or beside the plugin, links followed. Where np itself does not run, what stands
+    beside the plugin runs np.wasm. `command` are the words that run it, before its own."""
 
     def __init__(self, given: Optional[str] = None) -> None:
         self.is_given = bool(given)
-        self.name = given or str(parts.folder() / "np")
+        self.name = given or str(machine.program_beside(parts.folder()))
         self.path = Path(os.path.abspath(self.name))
+        self.command: List[children.Word] = [*machine.interpreter(self.path), self.path]
 
     def check(self) -> None:
         """Refuses a program that cannot be run, before anything is asked for."""
@@ -30,6 +32,8 @@ class Program:
             stop(3, problem % self.name + ": it is a folder")
         elif not self.path.exists():
             stop(3, problem % self.name)
+        elif machine.is_for_node(self.path):
+            machine.check_node()
         elif not os.access(self.path, os.X_OK):
             stop(3, problem % self.name + ": it may not be executed")
 
@@ -37,7 +41,7 @@ class Program:
         """Runs np with the words, and returns what it wrote and said; its standard input is empty where none is
         given."""
         try:
-            return children.run([self.path, *words], stdin=stdin, stdout=stdout)
+            return children.run([*self.command, *words], stdin=stdin, stdout=stdout)
         except OSError as error:
             stop(3, "%s cannot be run: %s" % (self.name, error.strerror))
 
@@ -45,7 +49,7 @@ class Program:
         """Runs np with the words, which writes its answer to standard output; repeats what it said. `meanwhile` is done while it
         works."""
         try:
-            ended = children.run_to_output([self.path, *words], stdin, meanwhile)
+            ended = children.run_to_output([*self.command, *words], stdin, meanwhile)
         except OSError as error:
             stop(3, "%s cannot be run: %s" % (self.name, error.strerror))
         if ended.status == 3 and children.is_output_closed():
@@ -54,13 +58,16 @@ class Program:
         return ended
 
     def behind_script(self) -> Path:
-        """The program that is run. In the repository np is a script, which runs dist/np where that was built from the
-        sources that stand there, and else what it built itself."""
+        """The program that is run, or the np.wasm that is. In the repository np is a script, which runs what is in dist/ where
+        that was built from the sources that stand there, and else what it built itself."""
+        module = machine.module(self.path)
+        if module is not None:
+            return module
         judge = self.path.parent / "tools" / "program.py"
-        if not (judge.is_file() and _is_script(self.path)):
+        if not (judge.is_file() and machine.is_script(self.path)):
             return self.path
         if children.run([sys.executable or "python3", judge, "current"]).status == 0:
-            return self.path.parent / "dist" / "np"
+            return self.path.parent / "dist" / ("np" if machine.runs_np() else "np.wasm")
         built = self.path.parent / ".built" / "np"
         if not os.access(built, os.X_OK):
             stop(3, "%s has not built its program from the sources as they stand" % self.name)
@@ -72,6 +79,8 @@ class Program:
         program = self.behind_script()
         digest = hashlib.sha256(program.read_bytes()).hexdigest()
         lines = ["version %s" % parts.version(), "program %s" % program, "sha256 %s" % digest, *_kit_of(program)]
+        if program.suffix == ".wasm":
+            lines.append("translated by a compiler: it is not what was proved")
         write(encoded("\n".join(lines) + "\n"))
 
     def check_words(self, command: str, words: List[str]) -> None:
@@ -86,11 +95,6 @@ class Program:
                 stop(2, "%s (kubectl np help %s)" % (problem, command))
         if ended.status != 1:
             raise Stop(ended.status, None, ended.said)
-
-
-def _is_script(path: Path) -> bool:
-    with path.open("rb") as file:
-        return file.read(2) == b"#!"
 
 
 def _kit_of(program: Path) -> List[str]:

@@ -22,6 +22,7 @@ _PACKAGES = {
     "kubectl": "kubernetes-client",
     "man": "man-db",
     "musl-gcc": "musl-tools",
+    "node": "nodejs",
     "strip": "binutils",
 }
 

@@ -3,9 +3,9 @@
 
     tools/links.py [DOCUMENT]...
 
-Without a DOCUMENT it takes README.md and every page below docs/. A link to a file must name one that exists, seen from the folder of the
-page; a link with `#` must name a heading of the page that it leads to (by the name that GitHub gives it), or an `id` that stands there in
-HTML. Links to other sites are not followed. What stands in a fenced block or between backquotes is no link.
+Without a DOCUMENT it takes README.md, SECURITY.md and every page below docs/. A link to a file must name one that exists, seen from the
+folder of the page; a link with `#` must name a heading of the page that it leads to (by the name that GitHub gives it), or an `id` that
+stands there in HTML. Links to other sites are not followed. What stands in a fenced block or between backquotes is no link.
 
 It writes nothing where all links lead somewhere; else it names those that do not, a line each, and ends with status 1.
 """
@@ -77,7 +77,7 @@ def faults(page: Path) -> Iterator[str]:
 
 def main(words: List[str]) -> int:
     """Checks the pages that are named, or all, and returns the status."""
-    pages = [Path(word) for word in words] or [TOP / "README.md", *sorted((TOP / "docs").rglob("*.md"))]
+    pages = [Path(word) for word in words] or [TOP / "README.md", TOP / "SECURITY.md", *sorted((TOP / "docs").rglob("*.md"))]
     told = [line for page in pages for line in faults(page)]
     if told:
         print("\n".join(told))

@@ -97,10 +97,24 @@ def _runs_here() -> bool:
     return sys.platform.startswith("linux") and os.uname().machine == "x86_64"
 
 
+def is_translated(top: Path) -> bool:
+    """Whether dist/np.wasm was made of dist/np, and is as it was made."""
+    dist = top / "dist"
+    wanted = {"%s %s" % (name, sources.digest((dist / file).read_bytes())) for name, file in (("wasm", "np.wasm"), ("program", "np"))}
+    return wanted <= set((dist / "np.wasm.manifest").read_text(encoding="utf-8").split("\n"))
+
+
 def _program(top: Path) -> Path:
-    """The program that is of these sources: the kept one, or the one that is built here."""
-    is_kept = _runs_here() and _is_current_and_stamped(top)
-    return top / "dist" / "np" if is_kept else _built_here(top)
+    """The program that is of these sources: the kept one, or the one that is built here. On another machine than dist/np is for, what
+    runs dist/np.wasm, where that is of these sources."""
+    if _runs_here():
+        return top / "dist" / "np" if _is_current_and_stamped(top) else _built_here(top)
+    if not is_current(top):
+        return _built_here(top)
+    if not is_translated(top):
+        building.say("np: dist/np.wasm was not made of dist/np: ./release makes it, on x86-64 Linux")
+        sys.exit(3)
+    return top / "np-wasm"
 
 
 def _run(top: Path, words: List[str]) -> NoReturn:

@@ -19,8 +19,9 @@ import os
 import re
 import subprocess
 import sys
+from concurrent.futures import ThreadPoolExecutor
 from pathlib import Path
-from typing import Any, Dict, Iterator, List, Sequence, Tuple
+from typing import Any, Dict, Iterator, List, Optional, Sequence, Tuple
 
 TOP = Path(os.path.abspath(__file__)).parent.parent
 sys.path.insert(0, str(TOP / "tools" / "relations"))
@@ -107,20 +108,30 @@ def renumbered(text: str, places: List[int]) -> str:
     return re.sub("[0-9]+", lambda number: str(places[int(number.group()) - 1] + 1), text)
 
 
+def difference(pool: ThreadPoolExecutor, program: str, thinned: Thinned) -> Optional[str]:
+    """The first command that says something else after pods were left out, and what it says; None where there is none. All commands are
+    asked at once: there are thousands of runs, of which each is short."""
+    both = thinned.whole, thinned.items
+    answers = [[pool.submit(asked, program, command, items) for items in both] for command in COMMANDS]
+    for command, (whole, rest) in zip(COMMANDS, answers):
+        one, other = whole.result(), whole_answer(rest.result(), thinned)
+        if one != other:
+            return "%s says %s of all pods, and %s after some were left out" % (command, one, other)
+    return None
+
+
 def main() -> None:
     words = argparse.ArgumentParser(description=__doc__, formatter_class=argparse.RawDescriptionHelpFormatter)
     words.add_argument("--program", default=str(TOP / "dist" / "np"))
     words.add_argument("files", nargs="+", type=Path, metavar="FILE")
     given = words.parse_args()
     count = left_out = 0
-    for path in given.files:
-        for items in lists(path):
+    with ThreadPoolExecutor(os.cpu_count()) as pool:
+        for path, items in ((path, items) for path in given.files for items in lists(path)):
             thinned = Thinned(items)
-            for command in COMMANDS if thinned.left_out else []:
-                one = asked(given.program, command, thinned.whole)
-                other = whole_answer(asked(given.program, command, thinned.items), thinned)
-                if one != other:
-                    sys.exit("%s: %s says %s of all pods, and %s after some were left out" % (path, command, one, other))
+            found = difference(pool, given.program, thinned) if thinned.left_out else None
+            if found is not None:
+                sys.exit("%s: %s" % (path, found))
             count += 1
             left_out += sum(thinned.left_out.values())
     print("%d lists, %d pods left out" % (count, left_out))

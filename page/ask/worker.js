@@ -20,10 +20,9 @@ function runWords(question, words, see) {
     const said = [];
     const ended = runNp(module, {
         words: words.map(word => new TextEncoder().encode(word)),
-        input: null,
-        files: new Map(question.files),
+        ...givenInputs(null, new Map(question.files)),
         most: question.most,
-        take: (output, bytes) => output === 2 ? said.push(bytes) > 0 : see(bytes),
+        take: (output, bytes) => output === 2 ? said.push(bytes.slice()) > 0 : see(bytes.slice()),
     });
     return { status: ended.status, bytes: ended.bytes, said: textOf.decode(joined(said)) };
 }

@@ -49,7 +49,7 @@ class Table:
         self._said = room.path("said.%s" % objects.side.label)
         with objects.path.open("rb") as file, room.create(self._said.name) as said:
             try:
-                self._child = children.start([program.path, "list", "--report", "1", "--format", "json", *words],
+                self._child = children.start([*program.command, "list", "--report", "1", "--format", "json", *words],
                                              stdin=file, stdout=subprocess.PIPE, stderr=said)
             except OSError as error:
                 stop(3, "%s cannot be run: %s" % (program.name, error.strerror))

@@ -80,7 +80,7 @@ class Rows:
     def _are_there(self) -> bool:
         """Whether there are few enough rows. They are read for that."""
         try:
-            child = children.start([self._program.path, "list", "--report", "1", "--format", "json", self._path],
+            child = children.start([*self._program.command, "list", "--report", "1", "--format", "json", self._path],
                                    stdout=subprocess.PIPE, stderr=subprocess.DEVNULL)
         except OSError as error:
             stop(3, "%s cannot be run: %s" % (self._program.name, error.strerror))

@@ -37,7 +37,7 @@ class Listed(NamedTuple):
 def listed(program: Program, path: Path, words: List[str]) -> Listed:
     """What np lists of the list in the file; where it refuses that, the gate ends."""
     try:
-        stream = children.Stream([program.path, "list", "--report", "1", *words, path])
+        stream = children.Stream([*program.command, "list", "--report", "1", *words, path])
     except OSError as error:
         stop(3, "%s cannot be run: %s" % (program.name, error.strerror))
     found = [(decoded(name), decoded(row)) for name, row in stream.found(_ROWS)]

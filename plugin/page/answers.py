@@ -94,7 +94,7 @@ class Answers:
         """Has the rows of np list read while np prints them."""
         controller = ["--controller=" + self._controller] if self._controller else []
         with self._room.create("said") as said:
-            child = children.start([self._program.path, *self._words("list", "--format", "json", *controller)],
+            child = children.start([*self._program.command, *self._words("list", "--format", "json", *controller)],
                                    stdout=subprocess.PIPE, stderr=said)
         try:
             with cast(IO[bytes], child.stdout) as stream:

@@ -39,7 +39,7 @@ def _pass_on(filters: Filters, program: Program, path: Path, keeps: Keeps) -> En
     """Writes the rows of np that are kept while np prints them: there may be millions."""
     with path.open("rb") as file:
         try:
-            rows = children.Stream([program.path, "list", *filters.words_of_np], stdin=file)
+            rows = children.Stream([*program.command, "list", *filters.words_of_np], stdin=file)
         except OSError as error:
             stop(3, "%s cannot be run: %s" % (program.name, error.strerror))
     output = Output(FORMS[filters.value("--format", "text")](), keeps)

@@ -25,7 +25,7 @@ from plugin.page.whole import SCRIPTS  # noqa: E402
 _USAGE = "usage: tools/wasm/ask_page.py [--check | PATH WASM]"
 _LINE = 120
 
-_WORKER = ["ask/host.js", "ask/table.js", "ask/worker.js"]
+_WORKER = ["ask/host.js", "ask/given.js", "ask/table.js", "ask/worker.js"]
 # Those of a made page, but for the last, which shows what the page already has.
 _SCRIPTS = [name for name in SCRIPTS if name != "shown.js"] + [
     "ask/%s.js" % name for name in ("runner", "inputs", "questions", "ask", "start")]

@@ -1,27 +1,30 @@
 #!/usr/bin/env python3
-"""Runs the stored cases and the transcripts through np.wasm, in a browser, and compares every byte with what is wanted.
+"""Runs the stored cases and the transcripts through np.wasm, in a browser or in Node, and compares every byte with what is wanted.
 
-tools/wasm/compare.py [--wasm FILE] chromium|firefox-esr [CASE..]
+tools/wasm/compare.py [--wasm FILE] chromium|firefox-esr|node [CASE..]
 
 The cases are those that run the program; of the others each is named below, with what it needs. All transcripts are one of them. `./test`
-runs them, on tools/wasm/through in the place of dist/np, which hands each run to the browser, by a server of this tool.
+runs them: on np-wasm in the place of dist/np, which runs np.wasm in Node, or on tools/wasm/through, which hands each run to the browser, by
+a server of this tool.
 """
 from __future__ import annotations
 
 import json
 import os
 import queue
+import shutil
 import subprocess
 import sys
 import tempfile
 import threading
+from contextlib import contextmanager
 from http.server import BaseHTTPRequestHandler, ThreadingHTTPServer
 from pathlib import Path
-from typing import Any, Dict, List
+from typing import Any, Callable, ContextManager, Dict, Iterator, List, NamedTuple
 
 HERE = Path(os.path.abspath(__file__)).parent
 TOP = HERE.parent.parent
-_USAGE = "usage: tools/wasm/compare.py [--wasm FILE] chromium|firefox-esr [CASE..]"
+_USAGE = "usage: tools/wasm/compare.py [--wasm FILE] chromium|firefox-esr|node [CASE..]"
 
 # What browsers are started with. The profile is a new folder, so that nothing of the machine's own is read.
 _BROWSERS = {
@@ -30,9 +33,9 @@ _BROWSERS = {
     "firefox-esr": ["firefox-esr", "--headless", "--no-remote", "--profile", "%s"],
 }
 
-# Cases that run the program and are about what np.wasm has not.
+# Cases that run the program and are about what np.wasm has not; the first of them no browser has.
+_BOUND_ON_FILES = "a-cut-report-is-its-beginning"
 _NOT_HERE = {
-    "a-cut-report-is-its-beginning": "a bound on files",
     "case-that-needs-a-command": "./test itself",
     "fault-out-of-memory": "a bound of the system on memory",
     "from-another-folder": "./np",
@@ -42,6 +45,7 @@ _NOT_HERE = {
     "transcripts-that-are-false": "tools/transcripts.py itself",
 }
 
+_WORKER = ["page/ask/host.js", "page/ask/given.js", "tools/wasm/loop.js"]
 _PAGE = "<!DOCTYPE html><title>np.wasm</title><script>for (let i = 0; i < %d; i += 1) new Worker('/worker.js');</script>"
 
 
@@ -73,7 +77,7 @@ def handler_of(runs: Runs, wasm: bytes) -> type:
     """What answers the browser and the stand-ins for the program."""
     files = {
         "/": ("text/html", (_PAGE % (os.cpu_count() or 2)).encode()),
-        "/worker.js": ("text/javascript", (TOP / "page" / "ask" / "host.js").read_bytes() + (HERE / "loop.js").read_bytes()),
+        "/worker.js": ("text/javascript", b"".join((TOP / name).read_bytes() for name in _WORKER)),
         "/np.wasm": ("application/wasm", wasm),
     }
 
@@ -122,33 +126,74 @@ def start_browser(name: str, profile: str, top: str) -> "subprocess.Popen[bytes]
     return subprocess.Popen([*words, top + "/"], stdin=subprocess.DEVNULL, stdout=subprocess.DEVNULL, stderr=subprocess.DEVNULL, env=quiet)
 
 
-def cases() -> List[str]:
-    """The cases that run the program, and nothing that np.wasm has not."""
+class Tested(NamedTuple):
+    """What `./test` runs in the place of the program, what it finds in its environment, and how many runs there were."""
+
+    program: Path
+    environment: Dict[str, str]
+    count: Callable[[], int]
+
+
+@contextmanager
+def in_browser(name: str, wasm: bytes) -> Iterator[Tested]:
+    """A browser that takes runs."""
+    runs = Runs()
+    server = ThreadingHTTPServer(("127.0.0.1", 0), handler_of(runs, wasm))
+    threading.Thread(target=server.serve_forever, daemon=True).start()
+    top = "http://127.0.0.1:%d" % server.server_address[1]
+    with _folder() as profile:
+        child = start_browser(name, profile, top)
+        try:
+            yield Tested(HERE / "through", {"NP_WASM_SERVER": top}, lambda: runs.count)
+        finally:
+            child.terminate()
+            child.wait()
+
+
+@contextmanager
+def in_node(wasm: bytes) -> Iterator[Tested]:
+    """np-wasm in a folder of its own, as it lies in the repository. Each run is counted by a byte that it writes to a pipe, since a case
+    may bound how large files grow."""
+    with _folder() as name:
+        home = Path(name)
+        (home / "dist").mkdir()
+        (home / "dist" / "np.wasm").write_bytes(wasm)
+        shutil.copy(TOP / "dist" / "np.mjs", home / "dist")
+        shutil.copy(TOP / "np-wasm", home)
+        counted, program = home / "counted", home / "np"
+        os.mkfifo(counted)
+        program.write_text("#!/bin/sh\nprintf . >'%s'\nexec '%s' \"$@\"\n" % (counted, home / "np-wasm"), encoding="utf-8")
+        program.chmod(0o755)
+        seen: List[int] = []
+        pipe = os.open(counted, os.O_RDWR)
+        threading.Thread(target=lambda: seen.extend(iter(lambda: len(os.read(pipe, 4096)), 0)), daemon=True).start()
+        yield Tested(program, {}, lambda: sum(seen))
+
+
+def _folder() -> ContextManager[str]:
+    """A new folder; a browser may still write into it when it goes."""
+    lenient = {"ignore_cleanup_errors": True} if sys.version_info >= (3, 10) else {}
+    return tempfile.TemporaryDirectory(**lenient)
+
+
+def cases(runtime: str) -> List[str]:
+    """The cases that run the program, and nothing that np.wasm has not in a browser or in Node."""
     found = []
     for folder in sorted((TOP / "cases").iterdir()):
         script = folder / "run"
         runs_np = not script.exists() or "$NP" in script.read_text(encoding="utf-8")
-        if (folder / "words").exists() and runs_np and folder.name not in _NOT_HERE:
+        is_here = folder.name not in _NOT_HERE and (runtime == "node" or folder.name != _BOUND_ON_FILES)
+        if (folder / "words").exists() and runs_np and is_here:
             found.append(folder.name)
     return found
 
 
-def compare(browser: str, wasm: Path, names: List[str]) -> int:
+def compare(runtime: str, wasm: bytes, names: List[str]) -> int:
     """Runs the cases, and returns the status of ./test."""
-    runs = Runs()
-    server = ThreadingHTTPServer(("127.0.0.1", 0), handler_of(runs, wasm.read_bytes()))
-    threading.Thread(target=server.serve_forever, daemon=True).start()
-    top = "http://127.0.0.1:%d" % server.server_address[1]
-    lenient = {"ignore_cleanup_errors": True} if sys.version_info >= (3, 10) else {}
-    with tempfile.TemporaryDirectory(**lenient) as profile:
-        child = start_browser(browser, profile, top)
-        try:
-            tested = dict(os.environ, NP_TESTED=str(HERE / "through"), NP_WASM_SERVER=top)
-            status = subprocess.run([str(TOP / "test"), *names], env=tested, check=False).returncode
-        finally:
-            child.terminate()
-            child.wait()
-    print("%d runs of np.wasm in %s" % (runs.count, browser))
+    with in_node(wasm) if runtime == "node" else in_browser(runtime, wasm) as tested:
+        environment = dict(os.environ, NP_TESTED=str(tested.program), **tested.environment)
+        status = subprocess.run([str(TOP / "test"), *names], env=environment, check=False).returncode
+        print("%d runs of np.wasm in %s" % (tested.count(), runtime))
     return status
 
 
@@ -157,10 +202,10 @@ def main(words: List[str]) -> int:
     wasm = TOP / "dist" / "np.wasm"
     if words[:1] == ["--wasm"] and len(words) > 1:
         wasm, words = Path(words[1]), words[2:]
-    if not words or words[0] not in _BROWSERS:
+    if not words or words[0] not in [*_BROWSERS, "node"]:
         print(_USAGE, file=sys.stderr)
         return 2
-    return compare(words[0], wasm, words[1:] or cases())
+    return compare(words[0], wasm.read_bytes(), words[1:] or cases(words[0]))
 
 
 if __name__ == "__main__":

@@ -1,5 +1,5 @@
 // A worker of the page that tools/wasm/compare.py has a browser open: takes runs from the server, one by one, and hands back what came of
-// them. host.js stands before it.
+// them. host.js and given.js stand before it.
 
 const LIMIT = 4e9, PIECE = 32768;
 
@@ -18,9 +18,9 @@ function made(module, run) {
     const words = run.words.map(bytesOf);
     const files = new Map(Object.entries(run.files).map(([name, text]) => [name, bytesOf(text)]));
     const input = run.input === null ? null : bytesOf(run.input);
-    const take = (output, bytes) => !run.full.includes(output) && taken[output - 1].push(bytes) > 0;
+    const take = (output, bytes) => !run.full.includes(output) && taken[output - 1].push(bytes.slice()) > 0;
     try {
-        const { status } = runNp(module, { words, input, files, most: run.most || LIMIT, take });
+        const { status } = runNp(module, { words, ...givenInputs(input, files), most: run.most || LIMIT, take });
         return { status, out: codedOf(taken[0]), err: codedOf(taken[1]) };
     } catch (error) {
         return { status: 99, out: codedOf(taken[0]), err: btoa('np.wasm stopped: ' + error.message + '\n') };
