@@ -19,6 +19,7 @@ pub mod PodMeant
 pub mod PolicyKinds
 pub mod PortsMeaning
 pub mod RowTexts
+pub mod RuleMatches
 pub mod SelectorLemmas
 pub mod ServiceMeant
 pub mod SpanTexts

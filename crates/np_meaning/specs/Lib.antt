@@ -8,6 +8,7 @@ pub mod Numbering
 pub mod ObjectMeaning
 pub mod PolicyMeaning
 pub mod Prelude
+pub mod RuleMeaning
 pub mod SelectorMeaning
 pub mod TemplatePods
 pub mod Types

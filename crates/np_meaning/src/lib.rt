@@ -1,11 +1,13 @@
-//! What is read, said again: what the members of each object and policy mean, which pods an estate has, and how workloads of one name
-//! are numbered. And what is printed: a text of a row tells what it stands for. The laws are about the definitions of the
+//! What is read, said again: what the members of each object and policy mean, whom policies select and
+//! what their rules match, which pods an estate has, and how workloads of one name are numbered. And what is printed: a text of a row
+//! tells what it stands for. The laws are about the definitions of the
 //! crates below, in the words of the Kubernetes API, so that a slip in a definition is refused here. Nothing stands on this
 //! crate.
 #![tactic(auto)]
 
 mod laws;
 mod policy_laws;
+mod rule_laws;
 mod text_laws;
 
 pub use laws::{
@@ -19,6 +21,13 @@ pub use policy_laws::{
     network_policies_mean_their_members, other_kinds_are_no_policy, peers_mean_their_members,
     policies_are_well_formed, policy_types_mean_their_members, port_entries_mean_their_members,
     selectors_mean_their_members, well_blocks_are_tested,
+};
+pub use rule_laws::{
+    admin_peers_stand_for_pods_or_networks, admin_port_entries_match_ranges_or_names,
+    admin_rules_match_by_some_peer_and_port, net_peers_stand_for_pods_or_addresses,
+    net_port_entries_match_ranges_or_names, net_rules_match_by_some_peer_and_port,
+    network_policies_isolate_by_their_types, network_policies_select_in_their_namespace,
+    subjects_select_by_both_selectors,
 };
 pub use text_laws::{
     one_text_has_one_end, one_text_has_one_row, one_text_has_one_span,
