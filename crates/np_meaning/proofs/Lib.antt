@@ -26,3 +26,14 @@ pub mod SpanTexts
 pub mod TableRows
 pub mod TemplatePodLemmas
 pub mod TypesMeaning
+pub mod ValidAdminReads
+pub mod ValidControllerReads
+pub mod ValidNames
+pub mod ValidNamespaceReads
+pub mod ValidNetworkReads
+pub mod ValidPeers
+pub mod ValidPodReads
+pub mod ValidPorts
+pub mod ValidReads
+pub mod ValidSelectors
+pub mod ValidServiceReads

@@ -12,3 +12,9 @@ pub mod RuleMeaning
 pub mod SelectorMeaning
 pub mod TemplatePods
 pub mod Types
+pub mod ValidAdmin
+pub mod ValidControllers
+pub mod ValidMembers
+pub mod ValidPods
+pub mod ValidPolicies
+pub mod ValidServices

@@ -1,4 +1,4 @@
-//! What is read, said again: what the members of each object and policy mean, whom policies select and
+//! What is read, said again: what the members of each object and policy mean, which objects are not refused, whom policies select and
 //! what their rules match, which pods an estate has, and how workloads of one name are numbered. And what is printed: a text of a row
 //! tells what it stands for. The laws are about the definitions of the
 //! crates below, in the words of the Kubernetes API, so that a slip in a definition is refused here. Nothing stands on this
@@ -9,6 +9,7 @@ mod laws;
 mod policy_laws;
 mod rule_laws;
 mod text_laws;
+mod valid_laws;
 
 pub use laws::{
     controllers_mean_their_members, controllers_without_pods_have_template_pods,
@@ -32,4 +33,9 @@ pub use rule_laws::{
 pub use text_laws::{
     one_text_has_one_end, one_text_has_one_row, one_text_has_one_span,
     rows_of_the_table_are_of_the_estate,
+};
+pub use valid_laws::{
+    valid_admin_policies_are_read, valid_baselines_are_read, valid_controllers_are_read,
+    valid_ingresses_are_read, valid_namespaces_are_read, valid_network_policies_are_read,
+    valid_pods_are_read, valid_services_are_read,
 };
