@@ -1,4 +1,4 @@
--- What a command that takes files makes of files behind its options. For CheckLemmas, FileCommandLemmas and 3 more.
+-- What a command that takes files makes of files behind its options. For CheckLemmas, FileCommandLemmas and 5 more.
 use Rattle.std.proofs.Common.{◌≡◌, ◌∙◌, ◌++◌, ap, ap₂, List, [], ◌∷◌, true, false, Some, None, Option, codes, fold, if◌then◌else◌, is_some, refl}
 use Rattle.std.specs.List.{list_all}
 use Rattle.clap.specs.Faults.{check_fault, defaults_fault, entered_fault, fault_of, settle_fault, walk_fault}

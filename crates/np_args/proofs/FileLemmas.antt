@@ -1,4 +1,4 @@
--- How clap walks over words that name files, of a command that has FILE as its one positional. For BehindLemmas, CheckLemmas and 5 more.
+-- How clap walks over words that name files, of a command that has FILE as its one positional. For BehindLemmas, CheckLemmas and 7 more.
 use Rattle.std.proofs.Common.{◌≡◌, ◌∙◌, ◌⊎◌, ◌==◌, ◌&&◌, ◌||◌, ◌++◌, ap, List, [], append-nil, append_assoc, ◌∷◌, Bool, true, false, Option, Some, None, codes, fold, if◌then◌else◌, inl, inr, not, refl, sym, true≢false}
 use Rattle.std.proofs.lemmas.Bool.{or_parts}
 use Rattle.std.specs.List.{list_all}

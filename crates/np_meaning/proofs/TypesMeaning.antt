@@ -1,4 +1,5 @@
--- The directions of a NetworkPolicy that was read are the types of its spec. For `policy_types_mean_their_members`.
+-- The directions of a NetworkPolicy that was read are the types of its spec.
+-- For `network_policies_isolate_by_their_types` and `policy_types_mean_their_members`.
 use Rattle.std.proofs.Common.{◌≡◌, ℕ, List, [], ◌∷◌, length, Bool, true, false, cond, ◌==◌, is_some, Option, Some, None, unwrap_or, codes, Ok, refl, sym, subst, ◌∙◌, arith}
 use Rattle.std.proofs.lemmas.Bool.Decides.{nat_tests}
 use Rattle.std.specs.Cmp.Lexicographic.{bytes_decides}

@@ -8,6 +8,13 @@ pub mod Numbering
 pub mod ObjectMeaning
 pub mod PolicyMeaning
 pub mod Prelude
+pub mod RuleMeaning
 pub mod SelectorMeaning
 pub mod TemplatePods
 pub mod Types
+pub mod ValidAdmin
+pub mod ValidControllers
+pub mod ValidMembers
+pub mod ValidPods
+pub mod ValidPolicies
+pub mod ValidServices
