@@ -19,4 +19,6 @@ mod sampled;
 #[cfg(test)]
 mod stated;
 #[cfg(test)]
+mod told;
+#[cfg(test)]
 mod unused;
