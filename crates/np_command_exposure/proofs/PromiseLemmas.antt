@@ -3,7 +3,7 @@ use Rattle.std.proofs.Common.{◌≡◌, ℕ, List, flat_map, Option, None, Some
 use Rattle.np_command_exposure.specs.Types.{EstateLists, Fault, Format, RowText, ShownSide}
 use Rattle.np_command.specs.Prelude.{SinkTrace, TookWhole, fault_in, lists_of, text_in}
 use Rattle.np_command.proofs.EndLemmas.{no_fault_at}
-use Rattle.np_command_exposure.proofs.SideLemmas.{all_rows-same, asked-sides, few-sides, first-over, rows_at, says-all, unknown-name}
+use Rattle.np_command_exposure.proofs.SideLemmas.{all_rows-same, asked-sides, few-sides, first-over, rows_at, says-all, unknown-name, well-at}
 use Rattle.np_command_exposure.specs.Promise.{ExposesAll, RefusesExposure, texts_of_side, too_many, unknown}
 use Rattle.np_command_exposure.specs.Report.{exposure_of_sides, exposure_reply, exposure_text, first_fault, side_rows, sides_shown, text_unless}
 use Rattle.np_model.specs.Prelude.{IsLawful}
@@ -25,6 +25,7 @@ says_shown out workload format texts lists shown read lawful is none took =
       asked = asked.1;
       few = few-sides lists shown sides asked.2 none;
       exposed = says-all lists shown sides lawful asked.2;
+      well = λ side has. well-at lists lawful side;
       printed = subst (λ (rows : List RowText). TookWhole out (report_text format rows)) same took;
     }
 

@@ -15,10 +15,11 @@ use Rattle.np_command.specs.Prelude.{or_unknown}
 use Rattle.np_command_exposure.specs.Types.{Direction, EstateLists, ExposureRow, Fault, RowText, ShownSide, Stranger, TooManyPatterns, UnknownEnd}
 use Rattle.np_command.proofs.EndLemmas.{no_workload, found-named}
 use Rattle.np_command_exposure.proofs.ExposureLemmas.{both-none, few-at}
-use Rattle.np_command_exposure.specs.Promise.{AreAsked, IsFirstOver, SaysWhatIsExposed, WorkloadSide, sides_of, texts_of_side, weight_of}
+use Rattle.np_command_exposure.specs.Promise.{AreAsked, HasWellRequirements, IsFirstOver, SaysWhatIsExposed, WorkloadSide, sides_of, texts_of_side, weight_of}
 use Rattle.np_command_exposure.specs.Report.{both_sides, exposure_row_text, first_fault, or_later, side_rows, sides_shown, weight_at, weight_fault}
 use Rattle.np_exposure.proofs.LeftLemmas.{rows_of-are}
 use Rattle.np_exposure.proofs.RightLemmas.{each_row-first, first_row-tells}
+use Rattle.np_exposure.proofs.WellLemmas.{rows_of-well}
 use Rattle.np_command_exposure.proofs.WorkloadLemmas.{workload-rows}
 use Rattle.np_exposure.specs.Prelude.{FirstRowTells, is_hypothetical, mentions, rows_of, weight}
 use Rattle.np_exposure.specs.declared.exposures.TheConstants.{MOST_PATTERNS}
@@ -213,6 +214,12 @@ pub says-all : (lists : EstateLists) (shown : List ShownSide) (sides : List Work
 says-all lists shown sides lawful are side has =
     let P : WorkloadSide → Type 0 = λ one. SaysWhatIsExposed lists one (rows_at lists one) in
     All-contains P sides side (All-from_recursion P sides (says-each lists shown sides lawful are)) has
+
+-- the requirements of lawful lists are as policies have them
+pub well-at : (lists : EstateLists) → IsLawful lists → (side : WorkloadSide) → HasWellRequirements (rows_at lists side)
+well-at lists lawful side =
+    let near : PodSide = side_of lists (slice_index side.workload.members 0) side.direction in
+    rows_of-well near (rows_of near) lawful.well (rows_of-are near)
 
 -- ---- how much of it
 
