@@ -1,7 +1,8 @@
 -- Items of which some are left out. For KeptLemmas, OwnPolicies and PolicyRulesLemmas.
-use Rattle.std.proofs.Common.{◌≡◌, ℕ, ◌+◌, ◌<◌, List, [], ◌∷◌, ◌++◌, Bool, true, false, ◌||◌, cond, find, filter, get_or, length, take, Option, Some, refl, sym, ap, ◌∙◌, if◌then◌else◌}
+use Rattle.std.proofs.Common.{◌≡◌, ℕ, ◌+◌, ◌<◌, List, [], ◌∷◌, ◌++◌, Bool, true, false, ◌||◌, cond, find, filter, get_or, length, map, take, Option, Some, refl, sym, ap, ◌∙◌, if◌then◌else◌}
 use Rattle.std.specs.List.{flat_map, list_any}
-use Rattle.std.proofs.lemmas.List.Elements.{filter_more}
+use Rattle.std.proofs.lemmas.List.Elements.{filter-append, filter_more}
+use Rattle.std.proofs.lemmas.List.{map-append, take_more}
 
 -- the first item that passes is found without some that do not
 pub find_kept : {X : Type 0} (test keep : X → Bool) (xs : List X) → ((x : X) → keep x ≡ false → test x ≡ false) → find test (filter keep xs) ≡ find test xs
@@ -36,6 +37,14 @@ filter_kept {X} test keep (x ∷ xs) fails = go (keep x) (fails x) (filter_kept 
 pub filter_next : {X : Type 0} (test : X → Bool) (xs : List X) (i : ℕ) (x : X) → i < length xs → x ≡ get_or xs i x →
     filter test (take (i + 1) xs) ≡ filter test (take i xs) ++ cond (test x) (x ∷ []) []
 filter_next {X} test xs i x within is = filter_more test xs i x within ∙ ap (λ (y : X). filter test (take i xs) ++ cond (test y) (y ∷ []) []) (sym is)
+
+-- the same of the images of items
+pub filter_image : {X Y : Type 0} (f : X → Y) (test : Y → Bool) (xs : List X) (i : ℕ) (x : X) → i < length xs → x ≡ get_or xs i x →
+    filter test (map f (take (i + 1) xs)) ≡ filter test (map f (take i xs)) ++ (if test (f x) then f x ∷ [] else [])
+filter_image {X} f test xs i x within is =
+    ap (λ (ys : List X). filter test (map f ys)) (take_more xs i x within ∙ ap (λ (y : X). take i xs ++ y ∷ []) (sym is))
+    ∙ ap (filter test) (map-append f (take i xs) (x ∷ []))
+    ∙ filter-append test (map f (take i xs)) (f x ∷ [])
 
 -- what there is of items only where they pass is what there is of those that pass
 pub flat_map_filter : {X Y : Type 0} (test : X → Bool) (f g : X → List Y) → ((x : X) → f x ≡ (if test x then g x else [])) → (xs : List X) → flat_map f xs ≡ flat_map g (filter test xs)

@@ -14,3 +14,4 @@ pub mod StrangerRules
 pub mod Texts
 pub mod Types
 pub mod Views
+pub mod RulesToward

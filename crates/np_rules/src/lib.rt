@@ -25,6 +25,7 @@ mod port_entries;
 mod port_sets;
 mod rule_ids;
 mod rules;
+mod rules_toward;
 mod selection;
 mod side_rules;
 mod stranger;

@@ -2,6 +2,7 @@
 ghost use Rattle.std.specs.Prelude.{◌≡◌, ◌+◌, ◌-◌, ◌^◌, ◌<◌, filter, length, map, true, Some, IfOk};
 ghost use Rattle.std.specs.List.{slice_get};
 ghost use Rattle.np_conns.specs.Prelude.{IsConns, has_spot, is_spot};
+ghost use Rattle.np_conns.specs.declared.port_spot.PortSpot.{PortSpot};
 ghost use Rattle.np_model.specs.Prelude.{IsFew};
 ghost use Rattle.np_pieces.specs.Prelude.{Covers};
 ghost use Rattle.np_rules.specs.EveryAddress.{AddressSpot, has_address_spot, is_address_spot};
@@ -22,6 +23,7 @@ use crate::policy_rules::{
     PolicyRules, count_rules, isolating_policies, rules_of, selecting_policies,
 };
 use crate::rule_ids::{LayerRules, places_of, rule_ids};
+use crate::rules_toward::{admin_rules_toward, net_rules_toward};
 use crate::side_rules::SideRules;
 use crate::stranger::Stranger;
 use crate::views::{EndView, view_of_stranger};
@@ -224,6 +226,32 @@ impl<'a> PodRules<'a> {
             admin: admin_parts(alloc, &admin, &ends)?,
             isolated: rules.isolated,
             net: net_sets(alloc, near.namespace, &net, &ends)?,
+            base: base_parts(alloc, rules.base, &ends)?,
+        };
+        let set = verdict_set(alloc, &layer)?;
+        Ok(set)
+    }
+
+    /// The protocols and ports that the side allows with another pod as the far end, which is named by its place in the estate, in
+    /// packets of a family. Rules whose peers do not match it are passed over.
+    pub fn pod_set(&self, alloc: Global, peer: u32, family: Family) -> Result<ConnSet, NoMemory>
+        requires { peer < length self.now.lists.pods }
+        ensures members { IfOk result (λ made. (spot : PortSpot) → is_spot spot ≡ true →
+            has_spot made spot
+            ≡ side_allows self.now.lists self.now.direction (near_pod self.now) (with_pod peer family self.now spot)) }
+        ensures well { IfOk result IsConns }
+    {
+        let rules = self.rules(alloc)?;
+        let pod = view_at(self.estate, self.pod);
+        let near = EndView::Pod(view_at(self.estate, self.pod));
+        let far = EndView::Pod(view_at(self.estate, peer));
+        let ends = between(self.direction, &near, &far, family);
+        let admin = admin_rules_toward(alloc, &rules.admin, &far, family)?;
+        let net = net_rules_toward(alloc, pod.namespace, &rules.net, &far)?;
+        let layer = Layer {
+            admin: admin_parts(alloc, &admin, &ends)?,
+            isolated: rules.isolated,
+            net: net_sets(alloc, pod.namespace, &net, &ends)?,
             base: base_parts(alloc, rules.base, &ends)?,
         };
         let set = verdict_set(alloc, &layer)?;

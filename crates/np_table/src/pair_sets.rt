@@ -160,8 +160,7 @@ fn side_set(
         has_spot made spot ≡ side_allows_pod near.now peer family spot) }
     ensures well { IfOk result IsConns }
 {
-    let layer = near.pod_layer(alloc, peer, family)?;
-    verdict_set(alloc, &layer)
+    near.pod_set(alloc, peer, family)
 }
 
 /// Counts the rules of two pods, once for each family of the list, as `set_between` looks at them.
