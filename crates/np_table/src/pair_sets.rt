@@ -1,12 +1,11 @@
 //! What passes between two pods, and so between two workloads.
 ghost use Rattle.std.specs.Prelude.{◌≡◌, ◌≢◌, ◌<◌, ◌+◌, ◌*◌, ℕ, if◌then◌else◌, None, Some, Contains, false, length, true, IfOk, IfSome};
-ghost use Rattle.np_conns.specs.Prelude.{IsConns, conns_of, has_spot, is_spot};
+ghost use Rattle.np_conns.specs.Prelude.{conns_of, has_spot, is_spot};
 ghost use Rattle.np_conns.specs.declared.port_spot.PortSpot.{PortSpot};
 ghost use Rattle.np_model.specs.Prelude.{IsLawful};
 ghost use Rattle.np_fold.specs.Prelude.{folding_of, members_of};
 ghost use Rattle.np_rules.specs.Prelude.{side_rule_count};
 ghost use Rattle.np_kinds.specs.Between as spec;
-ghost use Rattle.np_kinds.specs.Prelude.{side_allows_pod};
 ghost use Rattle.np_table.specs.PairRules as rules;
 ghost use Rattle.np_table.specs.steps.PairSides.{ends_of};
 
@@ -17,7 +16,6 @@ use np_fold::{Folded, Workloads};
 use np_kinds::Sides;
 use np_model::Direction;
 use np_rules::PodRules;
-use np_tiers::verdict_set;
 use std::alloc::Global;
 use std::sync::ledger::Ledger;
 
@@ -140,27 +138,12 @@ pub fn set_between(
     ensures { IfOk result (λ made. made
         ≡ conns_of (spec.between_pods sender.now.lists sender.now.pod receiver.now.pod family)) }
 {
-    let received = side_set(alloc, receiver, sender.pod(), family)?;
+    let received = receiver.pod_set(alloc, sender.pod(), family)?;
     if received.is_empty() {
         return Ok(received);
     }
-    let sent = side_set(alloc, sender, receiver.pod(), family)?;
+    let sent = sender.pod_set(alloc, receiver.pod(), family)?;
     sent.meet(&received)
-}
-
-// The protocols and ports that the side of a pod allows with another pod as the far end.
-fn side_set(
-    alloc: Global,
-    near: &PodRules<'_>,
-    peer: u32,
-    family: Family,
-) -> Result<ConnSet, NoMemory>
-    requires { peer < length near.now.lists.pods }
-    ensures members { IfOk result (λ made. (spot : PortSpot) → is_spot spot ≡ true →
-        has_spot made spot ≡ side_allows_pod near.now peer family spot) }
-    ensures well { IfOk result IsConns }
-{
-    near.pod_set(alloc, peer, family)
 }
 
 /// Counts the rules of two pods, once for each family of the list, as `set_between` looks at them.
