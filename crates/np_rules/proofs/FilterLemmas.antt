@@ -1,4 +1,4 @@
--- Items of which some are left out. For KeptLemmas, OwnPolicies and PolicyRulesLemmas.
+-- Items of which some are left out. For `admin_rules_toward`.
 use Rattle.std.proofs.Common.{◌≡◌, ℕ, ◌+◌, ◌<◌, List, [], ◌∷◌, ◌++◌, Bool, true, false, ◌||◌, cond, find, filter, get_or, length, map, take, Option, Some, refl, sym, ap, ◌∙◌, if◌then◌else◌}
 use Rattle.std.specs.List.{flat_map, list_any}
 use Rattle.std.proofs.lemmas.List.Elements.{filter-append, filter_more}

@@ -1,4 +1,4 @@
--- Rules that match nothing that is asked for may be left out of a layer. For `PodRules::address_set`, `PodRules::pod_set`, `joined_set` and crates above.
+-- Rules that match nothing that is asked for may be left out of a layer. For `PodRules::address_set`, `PodRules::pod_set` and 2 more.
 use Rattle.std.proofs.Common.{◌≡◌, ℕ, List, [], ◌∷◌, Bool, true, false, filter, find, map, Option, refl, sym, ap, subst, ◌∙◌, if◌then◌else◌}
 use Rattle.std.specs.List.{list_any}
 use Rattle.std.proofs.lemmas.Bool.{and_left, false≢true, or_from, or_parts}

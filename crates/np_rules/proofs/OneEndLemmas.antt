@@ -1,4 +1,4 @@
--- One far end and what its spots stand for. For `PodRules::pod_layer`, `PodRules::point_layer` and 2 more.
+-- One far end and what its spots stand for. For `PodRules::pod_layer`, `PodRules::pod_set` and 3 more.
 use Rattle.std.proofs.Common.{◌≡◌, sym}
 use Rattle.np_rules.specs.Prelude.{Contact, Direction, Family, ModelEnd, PortSpot, contact}
 
