@@ -16,6 +16,8 @@ pub fn expect_from_pod(rt: &impl Abort, alloc: Global, rules: &PodRules<'_>)
         .pod_layer(alloc, 0, Family::Four)
         .expect(rt, "a layer");
     expect_just(rt, alloc, &layer, "TCP 80; UDP 53");
+    let set = rules.pod_set(alloc, 0, Family::Four).expect(rt, "a set");
+    expect_conns(rt, alloc, &set, "TCP 80; UDP 53");
 }
 
 /// Stops the test unless the rule of the block alone lets the address 10.0.0.1 in.
