@@ -53,7 +53,7 @@ RULES_OF_PAIRS = "each rule is made a set for every two workloads, also where it
 PORTS_OF_PAIRS = "the ports of a rule are found for every two workloads, although the one that is sent to alone decides them"
 PORTS_OF_RULES = "each rule holds the ports that its name stands for"
 PORTS_OF_BLOCKS = "the ports of the rule are held once for each of its blocks"
-WALKS = "the patterns are walked through for each workload, although the rules of all are the same"
+WEIGHED = "what the rules ask for is gathered for each workload, to see whether there are too many patterns"
 PATTERNS = "the rules are gone through for each pattern of the labels"
 SETS_OF_PATTERNS = "each pattern of the labels has a set of thousands of ports"
 ADDRESSES = "the rules are asked about all addresses for each workload, although these are of one kind"
@@ -77,11 +77,7 @@ KNOWN = {(name, command): why for name, commands, why in (
     ("portNames", "list exposure unused check flatten", PORTS_OF_PAIRS),
     ("namedPortRules", "list explain exposure unused check", PORTS_OF_RULES),
     ("blocksAndPorts", "list unused check flatten", PORTS_OF_BLOCKS),
-    ("blockRules", "exposure", WALKS),
-    ("exposurePods", "exposure", WALKS),
-    ("exposurePodPorts", "exposure", WALKS),
-    ("exposureStrangers", "exposure", WALKS),
-    ("exposureValues", "exposure", WALKS),
+    ("exposureStrangers", "exposure", WEIGHED),
     ("exposureKeys", "exposure", PATTERNS),
     ("exposurePeers", "exposure", PATTERNS),
     ("exposureNamespaces", "exposure", PATTERNS),
