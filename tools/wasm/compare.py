@@ -38,6 +38,7 @@ _BOUND_ON_FILES = "a-cut-report-is-its-beginning"
 _NOT_HERE = {
     "case-that-needs-a-command": "./test itself",
     "fault-out-of-memory": "a bound of the system on memory",
+    "short-memory-is-told": "bounds of the system on memory",
     "from-another-folder": "./np",
     "kept-program-has-no-symbols": "the file dist/np",
     "no-kit-on-the-path": "./np",
