@@ -12,12 +12,13 @@ use crate::known_rows::{KnownRows, PeerRow, peer_rows};
 use np_args::Format;
 use np_base::{NoMemory, Seq, Text};
 use np_command::{Failure, Fault, WriteFault, workload_of};
-use np_exposure::{ExposureFault, MOST_PATTERNS, exposure, side_mark, weight};
+use np_exposure::{ExposureFault, MOST_PATTERNS, exposure, weight};
 use np_fold::Folded;
 use np_io::{BufferedSink, Sink};
 use np_kinds::first_place;
 use np_model::Direction;
 use np_report::{CsvForm, Form, JsonForm, RowText, TextForm, lines_of};
+use np_rules::side_mark;
 use std::alloc::Global;
 
 /// A workload, by its number, as it is sent to or as it sends.

@@ -4,4 +4,3 @@ pub mod States
 pub mod Walks
 pub mod Settled
 pub mod Left
-pub mod SameSides

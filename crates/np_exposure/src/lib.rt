@@ -23,10 +23,8 @@ mod peer_keys;
 mod peer_text;
 mod pending;
 mod requirements;
-mod same;
 mod same_sides;
 mod side;
-mod side_marks;
 mod sided_requirement;
 mod step;
 mod walk;
@@ -44,6 +42,5 @@ pub use laws::{
 pub use peer_text::print_peer;
 pub use same_sides::is_same_side;
 pub use side::Side;
-pub use side_marks::side_mark;
 pub use sided_requirement::SidedRequirement;
 pub use weights::weight;

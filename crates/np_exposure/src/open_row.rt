@@ -4,10 +4,10 @@ ghost use Rattle.np_exposure.specs.Tree.{IsJoined, with_first};
 ghost use Rattle.np_exposure.specs.declared.exposure_row.ExposureRow.{ExposureRow};
 
 use crate::exposure_row::ExposureRow;
-use crate::same::{Same, are_same};
 use crate::sided_requirement::SidedRequirement;
 use np_base::{Cells, NoMemory, Seq, TryCopy};
 use np_conns::ConnSet;
+use np_rules::{Same, are_same};
 use std::alloc::Global;
 use std::marker::Model;
 

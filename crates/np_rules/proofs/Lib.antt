@@ -20,3 +20,4 @@ pub mod OwnPolicies
 pub mod KeptLemmas
 pub mod Protocols
 pub mod StrangerLemmas
+pub mod SameSideLemmas

@@ -15,3 +15,4 @@ pub mod Texts
 pub mod Types
 pub mod Views
 pub mod RulesToward
+pub mod SameSides

@@ -1,5 +1,5 @@
 use Rattle.std.proofs.Common.{◌≡◌, ◌≤◌, length, take}
-use Rattle.np_exposure.proofs.same.are_same.Given as goal
+use Rattle.np_rules.proofs.same.are_same.Given as goal
 
 -- those so far are equal
 abbrev pub invariant-loop-place : goal.invariant-loop-place

@@ -2,14 +2,14 @@
 ghost use Rattle.std.specs.Prelude.{◌≡◌, ◌≢◌, MatchBool};
 
 /// Values that can be compared.
-pub(crate) trait Same {
+pub trait Same {
     /// Whether another value is equal.
     fn is_same(&self, other: &Self) -> bool
         ensures { MatchBool result (self.now ≡ other.now) (self.now ≢ other.now) };
 }
 
 /// Whether two lists are equal.
-pub(crate) fn are_same<T: Same>(these: &[T], those: &[T]) -> bool
+pub fn are_same<T: Same>(these: &[T], those: &[T]) -> bool
     ensures { MatchBool result (these.now ≡ those.now) (these.now ≢ those.now) }
 {
     for (place, this) in these.iter().enumerate() {

@@ -1,11 +1,11 @@
 -- When the sides of two pods are the same: the policies of an estate do not tell them apart.
 use Rattle.std.specs.Prelude.{◌≡◌, List, Bool, true, Option, Some, None}
 use Rattle.std.specs.List.{list_all}
-use Rattle.np_exposure.specs.Types.{AdminPolicy, BasePolicy, Direction, Egress, Ingress, NetPolicy}
 use Rattle.np_model.specs.declared.admin_policy.Subject.{Subject}
-use Rattle.np_model.specs.declared.lists.EstateLists.{EstateLists}
-use Rattle.np_model.specs.declared.named_port.NamedPort.{NamedPort}
-use Rattle.np_rules.specs.Prelude.{PodEnd, net_selects, subject_selects}
+use Rattle.np_rules.specs.Types.{AdminPolicy, BasePolicy, Direction, Egress, EstateLists, Family, Ingress, NamedPort, NetPolicy, PortSpot}
+use Rattle.np_rules.specs.model.Ends.{ModelEnd, PodEnd, contact, pod}
+use Rattle.np_rules.specs.model.Selection.{net_selects, subject_selects}
+use Rattle.np_rules.specs.model.Sides.{side_allows}
 use mathlib.Core.Bool.{beq}
 
 -- whether a subject selects both pods, or neither
@@ -34,3 +34,8 @@ pub record IsSameSide (lists : EstateLists) (direction : Direction) (p q : PodEn
   pub base : is_alike_for_base lists.baseline p q ≡ true
   pub admin : is_alike_for_admin lists.admin_policies p q ≡ true
   pub net : is_alike_for_net lists.net_policies p q ≡ true
+
+-- what both allow is the same, with every far end
+abbrev pub AllowTheSame : EstateLists → Direction → PodEnd → PodEnd → Type 0
+AllowTheSame lists direction p q = (far : ModelEnd) (family : Family) (spot : PortSpot) →
+    side_allows lists direction p (contact direction (pod p) far family spot) ≡ side_allows lists direction q (contact direction (pod q) far family spot)
