@@ -2,11 +2,11 @@
 use Rattle.std.proofs.Common.{◌≡◌, ℕ, List, [], ◌∷◌, Bool, true, false, filter, find, map, Option, refl, sym, ap, subst, ◌∙◌, if◌then◌else◌}
 use Rattle.std.specs.List.{list_any}
 use Rattle.std.proofs.lemmas.Bool.{and_left, false≢true, or_from, or_parts}
-use Rattle.np_rules.specs.Prelude.{Address, AdminPeer, AdminRule, Contact, Family, IsAdminPart, IsBasePart, IsSetOf, KeepsRules, Layer, ModelEnd, NetPeer, NetRule, Pairwise, PlacedAdminRule, PlacedNetRule, PodSide, PortSpot, address, admin_entry_matches, admin_peer_matches, admin_places, admin_rule_matches, admin_rule_of_addresses, admin_rule_reaches, admin_says, base_places, base_says, contact, is_block, is_networks, matches_of, near_pod, net_entry_matches, net_peer_matches, net_places, net_rule_matches, net_rule_of_addresses, net_rule_reaches, none_or_any, placed_net_matches, side_allows}
+use Rattle.np_rules.specs.Prelude.{Address, AdminPeer, AdminRule, Contact, Family, IsAdminPart, IsBasePart, KeepsRules, Layer, ModelEnd, NetPeer, NetRule, Pairwise, PlacedAdminRule, PlacedNetRule, PodSide, PortSpot, address, admin_entry_matches, admin_peer_matches, admin_places, admin_rule_matches, admin_rule_of_addresses, admin_rule_reaches, admin_says, base_places, base_says, contact, is_block, is_networks, matches_of, near_pod, net_entry_matches, net_peer_matches, net_places, net_rule_matches, net_rule_of_addresses, net_rule_reaches, none_or_any, placed_net_matches, side_allows}
 use Rattle.np_model.specs.declared.admin_policy.AdminPeer.TheVariants as admin
 use Rattle.np_model.specs.declared.network_policy.NetPeer.TheVariants as net
 use Rattle.np_rules.proofs.FilterLemmas.{any_kept, find_kept}
-use Rattle.np_rules.proofs.LayerLemmas.{admin_same, base_same, matches_in, matches_in_namespace, net_same, walk_by_tiers}
+use Rattle.np_rules.proofs.LayerLemmas.{admin_same, base_same, matches_in, matches_in_namespace, walk_by_tiers}
 use Rattle.np_rules.proofs.PairwiseLemmas.{Pairwise-map, map-map}
 use Rattle.np_rules.proofs.StrangerLemmas.{any-map}
 use Rattle.np_conns.specs.Prelude.{Conns, has_spot, is_spot}
@@ -79,8 +79,8 @@ pub walk_of_kept : {S Spot Admin Kept : Type 0} (has : S → Spot → Bool) (in_
     ((spot : Spot) (rule : NetRule) → keeps_net rule ≡ false → net_rule_matches (near_pod side).namespace rule (contact_at spot) ≡ false) →
     KeepsRules side admin isolated net base → map admin_of kept_admin ≡ filter keeps_admin admin → map net_of kept_net ≡ filter keeps_net net →
     namespace ≡ (near_pod side).namespace → Pairwise (IsAdminPart has in_space contact_at) made.admin (map admin_of kept_admin) → made.isolated ≡ isolated →
-    Pairwise (IsSetOf has in_space contact_at) made.net (map (λ kept. net_rule_matches namespace (net_of kept)) kept_net) → Pairwise (IsBasePart has in_space contact_at) made.base base →
-    (spot : Spot) → in_space spot ≡ true → walk_allows (λ set. has set spot) made ≡ side_allows side.lists side.direction (near_pod side) (contact_at spot)
+    ((spot : Spot) → in_space spot ≡ true → list_any (λ set. has set spot) made.net ≡ list_any (λ kept. net_rule_matches namespace (net_of kept) (contact_at spot)) kept_net) →
+    Pairwise (IsBasePart has in_space contact_at) made.base base → (spot : Spot) → in_space spot ≡ true → walk_allows (λ set. has set spot) made ≡ side_allows side.lists side.direction (near_pod side) (contact_at spot)
 walk_of_kept {S} {Spot} {Admin} {Kept} has in_space contact_at keeps_admin keeps_net side admin isolated net base kept_admin admin_of kept_net net_of namespace made no_admin no_net keeps admin_kept
     net_kept named are_admin same are_net are_base spot within =
     walk_by_tiers has side.lists side.direction (near_pod side) at made spot keeps.ascending (same ∙ keeps.isolation) net_says base_is admin_is
@@ -136,10 +136,9 @@ walk_of_kept {S} {Spot} {Admin} {Kept} has in_space contact_at keeps_admin keeps
 
     net_says : list_any (λ set. has set spot) made.net ≡ list_any (placed_net_matches at) nets
     net_says =
-        net_same has in_space contact_at spot within made.net (filter keep_net nets)
-        (Pairwise-map (IsSetOf has in_space contact_at) matches_of made.net (filter keep_net nets)
-        (subst (λ (matches : List (Contact → Bool)). Pairwise (IsSetOf has in_space contact_at) made.net matches) net_matches are_net))
-        ∙ sym (any-map there matches_of (filter keep_net nets))
+        are_net spot within
+        ∙ sym (any-map there (λ kept. net_rule_matches namespace (net_of kept)) kept_net)
+        ∙ ap (list_any there) net_matches
         ∙ ap (list_any there) (images_kept matches_of by_rule keep_net nets named_ones)
         ∙ any-map there by_rule (filter keep_net nets)
         ∙ any_kept (λ placed. in_namespace placed.rule at) keep_net nets (λ placed none. no_net spot placed.rule none)
@@ -161,12 +160,13 @@ pub walk_toward : {Admin Kept : Type 0} (ends : PortSpot → Contact) (near far 
     ends ≡ contact side.direction near far family → KeepsRules side admin isolated net base →
     map admin_of kept_admin ≡ filter (admin_rule_reaches far family) admin → map net_of kept_net ≡ filter (net_rule_reaches namespace far) net → namespace ≡ (near_pod side).namespace →
     Pairwise (IsAdminPart has_spot is_spot ends) made.admin (map admin_of kept_admin) → made.isolated ≡ isolated →
-    Pairwise (IsSetOf has_spot is_spot ends) made.net (map (λ kept. net_rule_matches namespace (net_of kept)) kept_net) → Pairwise (IsBasePart has_spot is_spot ends) made.base base →
-    (spot : PortSpot) → is_spot spot ≡ true → walk_allows (λ set. has_spot set spot) made ≡ side_allows side.lists side.direction (near_pod side) (contact side.direction near far family spot)
+    ((spot : PortSpot) → is_spot spot ≡ true → list_any (λ set. has_spot set spot) made.net ≡ list_any (λ kept. net_rule_matches namespace (net_of kept) (ends spot)) kept_net) →
+    Pairwise (IsBasePart has_spot is_spot ends) made.base base → (spot : PortSpot) → is_spot spot ≡ true → walk_allows (λ set. has_spot set spot) made ≡ side_allows side.lists side.direction (near_pod side) (contact side.direction near far family spot)
 walk_toward ends near far family side admin isolated net base kept_admin admin_of kept_net net_of namespace made is keeps admin_kept net_kept named are_admin same are_net are_base =
     walk_of_kept has_spot is_spot (contact side.direction near far family) (admin_rule_reaches far family) (net_rule_reaches namespace far) side admin isolated net base kept_admin admin_of kept_net
     net_of namespace made (λ spot rule none. and_left _ _ none)
     (λ spot rule none. subst (λ (name : List ℕ). net_rule_matches name rule (contact side.direction near far family spot) ≡ false) named (and_left _ _ none)) keeps admin_kept net_kept named
     (subst (λ at. Pairwise (IsAdminPart has_spot is_spot at) made.admin (map admin_of kept_admin)) is are_admin) same
-    (subst (λ at. Pairwise (IsSetOf has_spot is_spot at) made.net (map (λ kept. net_rule_matches namespace (net_of kept)) kept_net)) is are_net)
+    (subst (λ (at : PortSpot → Contact). (spot : PortSpot) → is_spot spot ≡ true →
+    list_any (λ set. has_spot set spot) made.net ≡ list_any (λ kept. net_rule_matches namespace (net_of kept) (at spot)) kept_net) is are_net)
     (subst (λ at. Pairwise (IsBasePart has_spot is_spot at) made.base base) is are_base)

@@ -14,6 +14,7 @@ mod laws;
 mod layer_parts;
 mod near_ends;
 mod net_tier;
+mod net_union;
 mod one_end;
 mod own_policies;
 mod packet;

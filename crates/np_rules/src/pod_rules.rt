@@ -19,6 +19,7 @@ use crate::every_address::{AddrConns, EveryAddress};
 use crate::far_ends::FarEnds;
 use crate::layer_parts::{admin_parts, base_parts, net_sets};
 use crate::near_ends::{between, view_at};
+use crate::net_union::net_union;
 use crate::policy_rules::{
     PolicyRules, count_rules, isolating_policies, rules_of, selecting_policies,
 };
@@ -225,7 +226,7 @@ impl<'a> PodRules<'a> {
         let layer = Layer {
             admin: admin_parts(alloc, &admin, &ends)?,
             isolated: rules.isolated,
-            net: net_sets(alloc, near.namespace, &net, &ends)?,
+            net: net_union(alloc, near.namespace, &net, &ends)?,
             base: base_parts(alloc, rules.base, &ends)?,
         };
         let set = verdict_set(alloc, &layer)?;
@@ -251,7 +252,7 @@ impl<'a> PodRules<'a> {
         let layer = Layer {
             admin: admin_parts(alloc, &admin, &ends)?,
             isolated: rules.isolated,
-            net: net_sets(alloc, pod.namespace, &net, &ends)?,
+            net: net_union(alloc, pod.namespace, &net, &ends)?,
             base: base_parts(alloc, rules.base, &ends)?,
         };
         let set = verdict_set(alloc, &layer)?;

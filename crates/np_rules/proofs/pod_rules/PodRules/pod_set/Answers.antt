@@ -9,7 +9,7 @@ pub returns-clause-members : goal.returns-clause-members
 returns-clause-members c = λ spot within.
     let side = c.args.self.now in
     let rules = c.in_ok-rules.rules in
-    let layer : Layer Conns = record { admin = c.in_ok-admin_parts.field-0; isolated = rules.isolated; net = c.in_ok-net_sets.field-0; base = c.in_ok-base_parts.field-0 } in
+    let layer : Layer Conns = record { admin = c.in_ok-admin_parts.field-0; isolated = rules.isolated; net = c.in_ok-net_union.field-0; base = c.in_ok-base_parts.field-0 } in
     let namespace = c.view_at-pod.result.namespace.now in
     let far_is : pod (pod_view c.view_at-2.result) ≡ pod (pod_at side.lists c.args.peer) = ap pod c.view_at-2.ensures ∙ ap (λ (s : PodSide). pod (pod_at s.lists c.args.peer)) c.self.view_is in
     let admin : List AdminRule = map (λ rule. rule.now) rules.admin.items in
@@ -22,4 +22,4 @@ returns-clause-members c = λ spot within.
     (subst (λ (far : ModelEnd). map (λ rule. rule.now) c.in_ok-admin.admin.items ≡ filter (admin_rule_reaches far c.args.family) admin) far_is (rw c.deref.ensures.value at c.in_ok-admin.ensures))
     (subst (λ (far : ModelEnd). map (λ rule. rule.now) c.in_ok-net.net.items ≡ filter (net_rule_reaches namespace far) net) far_is (rw c.deref-2.ensures.value at c.in_ok-net.ensures))
     (ap (λ (p : PodEnd). p.namespace) c.view_at-pod.ensures ∙ ap (λ (s : PodSide). (near_pod s).namespace) c.self.view_is) (rw c.deref-3.ensures.value at c.in_ok-admin_parts.ensures) refl
-    (rw c.deref-4.ensures.value at c.in_ok-net_sets.ensures) c.in_ok-base_parts.ensures spot within
+    (rw c.deref-4.ensures.value at c.in_ok-net_union.ensures) c.in_ok-base_parts.ensures spot within
