@@ -21,3 +21,4 @@ pub mod KeptLemmas
 pub mod Protocols
 pub mod StrangerLemmas
 pub mod SameSideLemmas
+pub mod PortNameLemmas

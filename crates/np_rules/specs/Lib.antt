@@ -16,3 +16,4 @@ pub mod Types
 pub mod Views
 pub mod RulesToward
 pub mod SameSides
+pub mod PortNames

@@ -1,11 +1,14 @@
 //! The protocols and ports of port entries, as sets.
-ghost use Rattle.std.specs.Prelude.{◌≡◌, Bool, true, ◌&&◌, ◌||◌, ◌==◌, IfOk};
+ghost use Rattle.std.specs.Prelude.{◌≡◌, Bool, true, false, ◌&&◌, ◌||◌, ◌==◌, IfOk};
+ghost use Rattle.std.specs.Bool.{OnTrue};
 ghost use Rattle.std.specs.List.{list_any};
+ghost use Rattle.std.specs.Str.{bytes_eq};
 ghost use Rattle.np_conns.specs.Prelude.{has_spot, is_spot, same_proto};
 ghost use Rattle.np_conns.specs.declared.port_spot.PortSpot.{PortSpot};
 ghost use Rattle.np_addr.specs.declared.address.Address.{Address};
 ghost use Rattle.np_rules.specs.model.Ends.{ModelEnd, address};
 ghost use Rattle.np_rules.specs.model.PortEntries as spec;
+ghost use Rattle.np_rules.specs.PortNames.{has_name};
 ghost use Rattle.np_rules.specs.model.Rules.{none_or_any};
 ghost use Rattle.np_rules.specs.Views.{end_view};
 
@@ -24,6 +27,10 @@ pub(crate) trait PortEntry {
     fn spots(&self, alloc: Global, destination: &EndView<'_>) -> Result<ConnSet, NoMemory>
         ensures { IfOk result (λ made. (spot : PortSpot) → is_spot spot ≡ true →
             has_spot made spot ≡ matches self.now (end_view destination.now) spot) };
+
+    /// Whether it names ports, and none at a destination has that name, so that it matches nothing there.
+    fn names_no_port(&self, destination: &EndView<'_>) -> bool
+        ensures { OnTrue result ((spot : PortSpot) → matches self.now (end_view destination.now) spot ≡ false) };
 
     /// At an address it matters not which.
     ghost same_at_addresses: { (entry : Self) (a b : Address) (spot : PortSpot) →
@@ -45,6 +52,13 @@ impl PortEntry for NetPort {
             }
         }
     }
+
+    fn names_no_port(&self, destination: &EndView<'_>) -> bool {
+        match self {
+            NetPort::Span { .. } => false,
+            NetPort::Named { name, .. } => !has_port_named(name.as_str(), destination),
+        }
+    }
 }
 
 impl PortEntry for AdminPort {
@@ -58,6 +72,13 @@ impl PortEntry for AdminPort {
         match self {
             AdminPort::Span { proto, lo, hi } => span_set(alloc, *proto, *lo, *hi),
             AdminPort::Named { name } => named_at(alloc, name.as_str(), destination),
+        }
+    }
+
+    fn names_no_port(&self, destination: &EndView<'_>) -> bool {
+        match self {
+            AdminPort::Span { .. } => false,
+            AdminPort::Named { name } => !has_port_named(name.as_str(), destination),
         }
     }
 }
@@ -88,19 +109,43 @@ fn joined_set<E: PortEntry>(
     ensures { IfOk result (λ made. (spot : PortSpot) → is_spot spot ≡ true →
         has_spot made spot ≡ list_any (λ entry. E.matches entry (end_view destination.now) spot) entries.now) }
 {
-    let joined = joined_by_halves(alloc, entries, destination)?;
+    if let [entry] = entries {
+        return entry.spots(alloc, destination);
+    }
+    let matching = entries_toward(alloc, entries, destination)?;
+    let joined = joined_by_halves(alloc, &matching, destination)?;
     joined.copy()
+}
+
+// The entries but those that name ports of which the destination has none. A rule may have thousands of these, and no set is
+// made for them.
+fn entries_toward<'a, E: PortEntry>(
+    alloc: Global,
+    entries: &'a [E],
+    destination: &EndView<'_>,
+) -> Result<Vec<&'a E>, NoMemory>
+    ensures { IfOk result (λ made. (spot : PortSpot) →
+        list_any (λ entry. E.matches entry.now (end_view destination.now) spot) made.items
+        ≡ list_any (λ entry. E.matches entry (end_view destination.now) spot) entries.now) }
+{
+    let mut made = Vec::new(alloc);
+    for entry in entries {
+        if !entry.names_no_port(destination) {
+            made.push(entry)?;
+        }
+    }
+    Ok(made)
 }
 
 // The same. The sets of both halves of the entries are joined, so that n entries take time n log n; one entry alone, as most
 // rules have, is not joined.
 fn joined_by_halves<E: PortEntry>(
     alloc: Global,
-    entries: &[E],
+    entries: &[&E],
     destination: &EndView<'_>,
 ) -> Result<ConnSet, NoMemory>
     ensures { IfOk result (λ made. (spot : PortSpot) → is_spot spot ≡ true →
-        has_spot made spot ≡ list_any (λ entry. E.matches entry (end_view destination.now) spot) entries.now) }
+        has_spot made spot ≡ list_any (λ entry. E.matches entry.now (end_view destination.now) spot) entries.now) }
 {
     match entries {
         [] => ConnSet::nothing(alloc),
@@ -112,6 +157,22 @@ fn joined_by_halves<E: PortEntry>(
             first.join(&second)
         }
     }
+}
+
+// Whether some port of the end has that name.
+fn has_port_named(name: &str, end: &EndView<'_>) -> bool
+    ensures { result ≡ has_name name.now (end_view end.now) }
+{
+    match end {
+        EndView::Pod(pod) => is_some_port_named(name, pod.ports),
+        EndView::At(_) => false,
+    }
+}
+
+fn is_some_port_named(name: &str, ports: &[NamedPort]) -> bool
+    ensures { result ≡ list_any (λ port. bytes_eq port.name name.now) ports.now }
+{
+    ports.iter().any(|port| port.name.as_str() == name)
 }
 
 // The ports of a protocol from `lo` to `hi`. Where `hi` is below `lo` there are none.

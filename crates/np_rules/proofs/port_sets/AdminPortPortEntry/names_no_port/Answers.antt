@@ -1,0 +1,9 @@
+use Rattle.std.proofs.Common.{refl}
+use Rattle.np_rules.proofs.PortNameLemmas.{tells_none}
+use Rattle.np_rules.specs.Prelude.{admin_entry_matches, end_view}
+use Rattle.np_rules.proofs.port_sets.AdminPortPortEntry.names_no_port.Goals as goal
+
+pub returns-in-Named : goal.returns-in-Named
+returns-in-Named c =
+    tells_none c.in-Named.name (end_view c.args.destination.now) c.has_port_named.result (admin_entry_matches c.args.self.now (end_view c.args.destination.now))
+    (rw c.as_str.ensures at c.has_port_named.ensures) (λ spot none. rw (c.in-Named.is, none) refl)
