@@ -6,4 +6,5 @@ pub mod KindVerdicts
 pub mod MemberLemmas
 pub mod PairLemmas
 pub mod ReachLemmas
+pub mod SharedLemmas
 pub mod SideLemmas

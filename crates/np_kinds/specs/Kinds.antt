@@ -44,6 +44,11 @@ abbrev pub known_towards : KnownSides → Direction → List (ℕ × PodSide)
 known_towards sides Egress = sides.senders
 known_towards sides Ingress = sides.receivers
 
+-- the list of a direction
+abbrev pub chosen : Direction → List (ℕ × PodSide) → List (ℕ × PodSide) → List (ℕ × PodSide)
+chosen Egress senders receivers = senders
+chosen Ingress senders receivers = receivers
+
 -- whether the side of a workload's kind is known
 abbrev pub knows : KnownSides → Direction → ℕ → Bool
 knows sides direction workload = is_some (known_at (known_towards sides direction) (slice_index (folding_of sides.lists).kinds workload))

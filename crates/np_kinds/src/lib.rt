@@ -4,6 +4,8 @@
 mod first_pods;
 mod kind_reach;
 mod laws;
+mod shared_sets;
+mod shared_side;
 mod sides;
 
 pub use first_pods::{first_place, first_pod, first_side};

@@ -1,13 +1,19 @@
 //! The rules of the pods that stand for kinds of workloads.
-ghost use Rattle.std.specs.Prelude.{◌≡◌, OnOk, is_some, slice_index, true};
+ghost use Rattle.std.specs.Prelude.{◌≡◌, ◌<◌, IfOk, OnOk, Some, is_some, length, slice_index, true};
+ghost use Rattle.np_conns.specs.Prelude.{IsConns, has_spot, is_spot};
+ghost use Rattle.np_conns.specs.declared.port_spot.PortSpot.{PortSpot};
 ghost use Rattle.np_fold.specs.Prelude.{folding_of};
 ghost use Rattle.np_kinds.specs.Between.{IsWorkload};
-ghost use Rattle.np_kinds.specs.Kinds.{AreKnown, KnowsMore, StayKnown, kind_side, known_at, knows};
+ghost use Rattle.np_kinds.specs.Kinds.{AreKnown, KnowsMore, StayKnown, chosen, kind_side, known_at, knows, side_allows_pod};
 ghost use Rattle.np_model.specs.Prelude.{IsLawful};
 ghost use Rattle.np_model.specs.declared.direction.Direction.TheVariants.{Egress, Ingress};
 
-use crate::first_pods::first_side;
+use crate::first_pods::first_place;
+use crate::shared_sets::SharedSets;
+use crate::shared_side::SharedSide;
+use np_addr::Family;
 use np_base::NoMemory;
+use np_conns::ConnSet;
 use np_fold::Folded;
 use np_model::Direction;
 use np_rules::PodRules;
@@ -17,13 +23,18 @@ use std::marker::Model;
 
 /// The rules of the pods that stand for kinds of workloads, as they send and as they receive. No rule tells pods of one kind
 /// apart, so that the first pod of a kind's first workload stands for all. The rules of a kind are found when they are first
-/// asked for, and kept. Contracts see the lists of the estate, and of which workloads' kinds the rules are known.
+/// asked for, and kept. Kinds that labels tell apart often have the same side all the same, since the same policies select
+/// their pods: what a side allows with a far pod is found once for all of these. Contracts see the lists of the estate, and
+/// of which workloads' kinds the rules are known.
 pub struct Sides<'a> {
     alloc: Global,
     folded: &'a Folded,
     // By the numbers of kinds, as these send and as they receive.
-    senders: HashMap<u32, PodRules<'a>>,
-    receivers: HashMap<u32, PodRules<'a>>,
+    senders: HashMap<u32, SharedSide<'a>>,
+    receivers: HashMap<u32, SharedSide<'a>>,
+    // By the marks of sides, the first pod that was found with each.
+    firsts: HashMap<u64, u32>,
+    sets: SharedSets<'a>,
 }
 
 // Written out, so that letting one go is one call.
@@ -34,11 +45,14 @@ impl<'a> Drop for Sides<'a> {
             folded: _folded,
             senders: _senders,
             receivers: _receivers,
+            firsts: _firsts,
+            sets: _sets,
         } = self;
     }
 }
 
 impl<'a> Model for Sides<'a> {
+    ghost use Rattle.std.specs.Prelude.{◌≡◌};
     ghost use Rattle.np_kinds.specs.Kinds.{AreKnown, KnownSides};
     ghost use Rattle.np_model.specs.declared.direction.Direction.TheVariants.{Egress, Ingress};
 
@@ -46,7 +60,8 @@ impl<'a> Model for Sides<'a> {
 
     ghost view = { λ s. record { lists = s.folded.now; senders = s.senders.entries; receivers = s.receivers.entries } };
 
-    ghost invariant = { λ s. AreKnown s.folded.now Egress s.senders.entries × AreKnown s.folded.now Ingress s.receivers.entries };
+    ghost invariant = { λ s. AreKnown s.folded.now Egress s.senders.entries × AreKnown s.folded.now Ingress s.receivers.entries
+        × (s.sets ≡ s.folded.now) };
 }
 
 impl<'a> Sides<'a> {
@@ -59,6 +74,8 @@ impl<'a> Sides<'a> {
             folded,
             senders: HashMap::new(alloc),
             receivers: HashMap::new(alloc),
+            firsts: HashMap::new(alloc),
+            sets: SharedSets::new(alloc, folded.estate()),
         }
     }
 
@@ -77,9 +94,26 @@ impl<'a> Sides<'a> {
     {
         let alloc = self.alloc;
         let folded = self.folded;
+        let firsts = &mut self.firsts;
         match direction {
-            Direction::Egress => find(alloc, folded, direction, workload, &mut self.senders),
-            Direction::Ingress => find(alloc, folded, direction, workload, &mut self.receivers),
+            Direction::Egress => find(
+                alloc,
+                folded,
+                direction,
+                workload,
+                firsts,
+                &mut self.senders,
+            ),
+            Direction::Ingress => {
+                find(
+                    alloc,
+                    folded,
+                    direction,
+                    workload,
+                    firsts,
+                    &mut self.receivers,
+                )
+            }
         }
     }
 
@@ -107,8 +141,47 @@ impl<'a> Sides<'a> {
             Direction::Egress => &self.senders,
             Direction::Ingress => &self.receivers,
         };
-        sides.get(&kind).unwrap()
+        sides.get(&kind).unwrap().rules()
     }
+
+    /// The protocols and ports that the rules of a workload's kind in a direction, which were asked for, allow with another pod
+    /// as the far end, which is named by its place in the estate, in packets of a family.
+    pub fn pod_set(
+        &mut self,
+        direction: Direction,
+        workload: u32,
+        peer: u32,
+        family: Family,
+    ) -> Result<ConnSet, NoMemory>
+        requires workload { IsWorkload self.old.lists workload }
+        requires known { knows self.old direction workload ≡ true }
+        requires peer { peer < length self.old.lists.pods }
+        ensures members { IfOk result (λ made. (spot : PortSpot) → is_spot spot ≡ true →
+            has_spot made spot ≡ side_allows_pod (kind_side self.old.lists direction workload) peer family spot) }
+        ensures well { IfOk result IsConns }
+        ensures more { KnowsMore self.old self.new }
+    {
+        let kind = self.folded.workloads().kind_of(workload);
+        let side = side_at(&self.senders, &self.receivers, direction, kind);
+        side.pod_set(self.alloc, peer, family, &mut self.sets)
+    }
+}
+
+// The side of a kind in a direction, which is known.
+fn side_at<'s, 'a>(
+    senders: &'s HashMap<u32, SharedSide<'a>>,
+    receivers: &'s HashMap<u32, SharedSide<'a>>,
+    direction: Direction,
+    kind: u32,
+) -> &'s SharedSide<'a>
+    requires { is_some (known_at (chosen direction senders.now.entries receivers.now.entries) kind) ≡ true }
+    ensures { known_at (chosen direction senders.now.entries receivers.now.entries) kind ≡ Some result.now }
+{
+    let sides = match direction {
+        Direction::Egress => senders,
+        Direction::Ingress => receivers,
+    };
+    sides.get(&kind).unwrap()
 }
 
 // Finds the rules of a workload's kind in a direction, unless they are known.
@@ -117,7 +190,8 @@ fn find<'a>(
     folded: &'a Folded,
     direction: Direction,
     workload: u32,
-    sides: &mut HashMap<u32, PodRules<'a>>,
+    firsts: &mut HashMap<u64, u32>,
+    sides: &mut HashMap<u32, SharedSide<'a>>,
 ) -> Result<(), NoMemory>
     requires workload { IsWorkload folded.now workload }
     requires known { AreKnown folded.now direction sides.old.entries }
@@ -132,7 +206,8 @@ fn find<'a>(
         return Ok(());
     }
     let first = workloads.first_of_kinds()[kind as usize];
-    let side = first_side(alloc, folded, direction, first)?;
+    let place = first_place(folded, first);
+    let side = SharedSide::of(alloc, folded.estate(), place, direction, firsts)?;
     sides.insert(kind, side)?;
     Ok(())
 }

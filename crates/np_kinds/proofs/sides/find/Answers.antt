@@ -15,8 +15,8 @@ bounds-first_of_kinds-kind c =
     let there = first-of_kind c.args.folded.now c.args.workload c.requires.workload in
     rw (c.kind_of-kind.ensures, c.first_of_kinds.ensures, c.workloads-workloads.ensures.value) (slice_get_within (folding_of c.args.folded.now).first_of_kinds _ there.0 there.3)
 
-pub first_side-requires : goal.first_side-requires
-first_side-requires c =
+pub first_place-place-requires : goal.first_place-place-requires
+first_place-place-requires c =
     let there = first-of_kind c.args.folded.now c.args.workload c.requires.workload in
     let within : c.kind_of-kind.result < length c.first_of_kinds.result.now =
     rw (c.kind_of-kind.ensures, c.first_of_kinds.ensures, c.workloads-workloads.ensures.value) (slice_get_within (folding_of c.args.folded.now).first_of_kinds _ there.0 there.3) in
