@@ -9,7 +9,8 @@ ghost use Rattle.np_check.specs.steps.Broken as spec;
 ghost use Rattle.np_check.specs.declared.counterexample.PlaceEnd.TheVariants.{At, Work};
 ghost use Rattle.np_conns.specs.declared.port_spot.PortSpot.{PortSpot};
 ghost use Rattle.np_table.specs.Prelude.{rows_of_addresses};
-ghost use Rattle.np_kinds.specs.Prelude.{IsWorkload};
+ghost use Rattle.np_fold.specs.Prelude.{folding_of};
+ghost use Rattle.np_kinds.specs.Prelude.{IsWorkload, address_allows};
 
 use crate::asked::Asked;
 use crate::checker::Checker;
@@ -37,8 +38,7 @@ pub(crate) fn first_to_addresses(
     if block.is_empty() {
         return Ok(None);
     }
-    let rows = checker.address_rows(source, Direction::Egress)?;
-    let Some(broken) = first_broken(asked, rows.items(), block)? else {
+    let Some(broken) = first_with(checker, asked, source, Direction::Egress, block)? else {
         return Ok(None);
     };
     Ok(Some(Counterexample {
@@ -89,8 +89,7 @@ fn first_from(
         (addresses_of block.now)) }
     ensures same { checker.new ≡ checker.old }
 {
-    let rows = checker.address_rows(destination, Direction::Ingress)?;
-    let Some(broken) = first_broken(asked, rows.items(), block)? else {
+    let Some(broken) = first_with(checker, asked, destination, Direction::Ingress, block)? else {
         return Ok(None);
     };
     Ok(Some(Counterexample {
@@ -130,6 +129,29 @@ fn earlier_of(kept: Counterexample, counterexample: Counterexample) -> Counterex
 pub(crate) struct BreakingAddress {
     pub address: Address,
     pub spot: PortSpot,
+}
+
+// The first address of a set with which a packet of a workload in a direction breaks a statement.
+fn first_with(
+    checker: &mut Checker<'_>,
+    asked: &Asked<'_>,
+    work: u32,
+    direction: Direction,
+    block: &AddrSet,
+) -> Result<Option<BreakingAddress>, NoMemory>
+    requires work { IsWorkload checker.old work }
+    requires block { IsAddressSet block.now }
+    ensures broken { IfOk result (λ made. made ≡ spec.first_broken_of asked.now.wanted asked.now.conns.now block.now
+        (address_allows checker.old (folding_of checker.old) work direction)) }
+    ensures same { checker.new ≡ checker.old }
+{
+    if let Some(rows) = checker.known_addresses(work, direction) {
+        return first_broken(asked, rows, block);
+    }
+    let rows = checker.find_addresses(work, direction)?;
+    let found = first_broken(asked, rows.items(), block)?;
+    checker.keep_addresses(work, direction, rows)?;
+    Ok(found)
 }
 
 // The first address of a set with which a packet breaks a statement, by what passes with each range of addresses.

@@ -1,5 +1,5 @@
 //! Whether the statements of a cluster hold.
-ghost use Rattle.std.specs.Prelude.{◌≡◌, false, true, All, IfOk};
+ghost use Rattle.std.specs.Prelude.{◌≡◌, false, true, All, IfOk, IfSome};
 ghost use Rattle.np_addr.specs.declared.address.Family.{Family as SpecFamily};
 ghost use Rattle.np_check.specs.Counterexamples.{counterexample_of};
 ghost use Rattle.np_conns.specs.declared.port_spot.PortSpot.{PortSpot};
@@ -12,6 +12,7 @@ use crate::addresses::first_from_addresses;
 use crate::asked::Asked;
 use crate::checking::first_from_works;
 use crate::counterexample::Counterexample;
+use crate::known_addresses::KnownAddresses;
 use crate::statement::Statement;
 use np_addr::Family;
 use np_base::{NoMemory, Seq};
@@ -32,6 +33,7 @@ const PAIRS_PER_WORKLOAD: u64 = 50;
 pub struct Checker<'a> {
     alloc: Global,
     sides: Sides<'a>,
+    addresses: KnownAddresses<'a>,
     // How many pairs of workloads were asked for.
     pairs: u64,
     reach: Option<KindReach>,
@@ -43,6 +45,7 @@ impl<'a> Drop for Checker<'a> {
         let Checker {
             alloc: _alloc,
             sides: _sides,
+            addresses: _addresses,
             pairs: _pairs,
             reach: _reach,
         } = self;
@@ -56,10 +59,10 @@ impl<'a> Model for Checker<'a> {
 
     ghost view = { λ c. c.sides.lists };
 
-    ghost use Rattle.std.specs.Prelude.{IfSome};
+    ghost use Rattle.std.specs.Prelude.{◌≡◌, IfSome};
     ghost use Rattle.np_kinds.specs.Kinds.{IsKindReach};
 
-    ghost invariant = { λ c. IfSome c.reach (IsKindReach c.sides.lists) };
+    ghost invariant = { λ c. (c.addresses ≡ c.sides.lists) × IfSome c.reach (IsKindReach c.sides.lists) };
 }
 
 impl<'a> Checker<'a> {
@@ -70,6 +73,7 @@ impl<'a> Checker<'a> {
         Checker {
             alloc,
             sides: Sides::new(alloc, folded),
+            addresses: KnownAddresses::new(alloc, folded),
             pairs: 0,
             reach: None,
         }
@@ -140,9 +144,16 @@ impl<'a> Checker<'a> {
         self.sides.folded()
     }
 
-    /// What passes between a workload and each address: from the addresses to it in the direction of ingress, and from it to
-    /// them in that of egress.
-    pub(crate) fn address_rows(
+    /// What passes between a workload and each address, where it is known: from the addresses to it in the direction of ingress,
+    /// and from it to them in that of egress.
+    pub(crate) fn known_addresses(&self, work: u32, direction: Direction) -> Option<&[AddressRow]>
+        ensures { IfSome result (λ rows. rows.now ≡ address_rows (estate_table self.now) work direction) }
+    {
+        self.addresses.rows(work, direction)
+    }
+
+    /// Finds what passes between a workload and each address.
+    pub(crate) fn find_addresses(
         &mut self,
         work: u32,
         direction: Direction,
@@ -152,6 +163,19 @@ impl<'a> Checker<'a> {
         ensures same { self.new ≡ self.old }
     {
         address_rows_by_kind(self.alloc, &mut self.sides, work, direction)
+    }
+
+    /// Keeps what was found to pass between a workload and each address, for the statements to come.
+    pub(crate) fn keep_addresses(
+        &mut self,
+        work: u32,
+        direction: Direction,
+        rows: Seq<AddressRow>,
+    ) -> Result<(), NoMemory>
+        requires { rows ≡ address_rows (estate_table self.old) work direction }
+        ensures { self.new ≡ self.old }
+    {
+        self.addresses.keep(work, direction, rows)
     }
 
     /// The protocols and ports that pass from a workload to another in a family, by the rules of their kinds. It is right of a

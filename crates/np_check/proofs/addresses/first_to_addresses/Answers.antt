@@ -13,15 +13,11 @@ returns-then-is_empty-clause-counterexample c =
 
 pub returns-in_default-clause-counterexample : goal.returns-in_default-clause-counterexample
 returns-in_default-clause-counterexample c =
-    let rows = c.items.ensures ∙ c.in_ok-rows.ensures.rows ∙ table_rows c.args.checker.now c.args.source Egress in
-    let found = c.in_ok-broken.ensures (address_allows c.args.checker.now (folding_of c.args.checker.now) c.args.source Egress) rows in
     ap (option_map (counterexample_by c.args.source)) (sym c.in_default.is)
-    ∙ all_by c.args.checker.now c.args.asked.now.wanted c.args.asked.now.conns.now c.args.source c.args.block.now c.in_ok-broken.field-0 found
+    ∙ all_by c.args.checker.now c.args.asked.now.wanted c.args.asked.now.conns.now c.args.source c.args.block.now c.in_ok-broken.field-0 c.in_ok-broken.ensures.broken
 
 pub returns-clause-counterexample : goal.returns-clause-counterexample
 returns-clause-counterexample c =
-    let rows = c.items.ensures ∙ c.in_ok-rows.ensures.rows ∙ table_rows c.args.checker.now c.args.source Egress in
-    let found = c.in_ok-broken.ensures (address_allows c.args.checker.now (folding_of c.args.checker.now) c.args.source Egress) rows in
     ap (λ (family : Family). Some (counterexample_at (Work c.args.source) (At c.in-Some.broken.address) family c.in-Some.broken.spot)) c.family_of.ensures
     ∙ ap (option_map (counterexample_by c.args.source)) (sym c.in-Some.is)
-    ∙ all_by c.args.checker.now c.args.asked.now.wanted c.args.asked.now.conns.now c.args.source c.args.block.now c.in_ok-broken.field-0 found
+    ∙ all_by c.args.checker.now c.args.asked.now.wanted c.args.asked.now.conns.now c.args.source c.args.block.now c.in_ok-broken.field-0 c.in_ok-broken.ensures.broken

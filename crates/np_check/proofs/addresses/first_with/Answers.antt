@@ -1,0 +1,15 @@
+use Rattle.std.proofs.Common.{◌∙◌}
+use Rattle.np_check.proofs.AddressLemmas.{table_rows}
+use Rattle.np_fold.specs.Prelude.{folding_of}
+use Rattle.np_kinds.specs.Prelude.{address_allows}
+use Rattle.np_check.proofs.addresses.first_with.Goals as goal
+
+pub returns-in-Some-clause-broken : goal.returns-in-Some-clause-broken
+returns-in-Some-clause-broken c =
+    c.first_broken.ensures (address_allows c.args.checker.now (folding_of c.args.checker.now) c.args.work c.args.direction)
+    (c.in-Some.ensures ∙ table_rows c.args.checker.now c.args.work c.args.direction)
+
+pub returns-clause-broken : goal.returns-clause-broken
+returns-clause-broken c =
+    c.in_ok-found.ensures (address_allows c.args.checker.now (folding_of c.args.checker.now) c.args.work c.args.direction)
+    (c.items.ensures ∙ c.in_ok-rows.ensures.rows ∙ table_rows c.args.checker.now c.args.work c.args.direction)
