@@ -3,6 +3,7 @@ pub mod AddressRowLemmas
 pub mod DueLemmas
 pub mod KeptLemmas
 pub mod KindLemmas
+pub mod KindSets
 pub mod PlaceLemmas
 pub mod RangeCounts
 pub mod RangeOneList

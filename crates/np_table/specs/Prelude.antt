@@ -12,4 +12,4 @@ unfoldable pub use Rattle.np_table.specs.Table.{table_of}
 pub use Rattle.np_table.specs.ToCome.{IsOfSameSource, IsUnderWay, RowsToCome, address_rows_at, direction_at, due_for_kinds, greatest, pair_count, pair_rows_at, place_count, rules_of}
 unfoldable pub use Rattle.np_table.specs.ToCome.{due_at, due_from, most_rules, rows_at, rows_from}
 pub use Rattle.np_table.specs.Types.{AddressRow, AddressSpan, CachedConns, Controller, Direction, Egress, EstateLists, Family, Four, Ingress, PairEnds, Piece, PortSpot, Proto, Range, Row, RowEnd, RowKey, Sctp, Six, Span, Tcp, Udp, Work}
-pub use Rattle.np_table.specs.steps.PairSides.{ends_of}
+pub use Rattle.np_table.specs.steps.PairSides.{KnowsPair, conns_of_kinds, ends_of}

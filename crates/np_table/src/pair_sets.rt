@@ -6,8 +6,9 @@ ghost use Rattle.np_model.specs.Prelude.{IsLawful};
 ghost use Rattle.np_fold.specs.Prelude.{folding_of, members_of};
 ghost use Rattle.np_rules.specs.Prelude.{side_rule_count};
 ghost use Rattle.np_kinds.specs.Between as spec;
+ghost use Rattle.np_kinds.specs.Kinds.{KnowsMore};
 ghost use Rattle.np_table.specs.PairRules as rules;
-ghost use Rattle.np_table.specs.steps.PairSides.{ends_of};
+ghost use Rattle.np_table.specs.steps.PairSides.{KnowsPair, conns_of_kinds, ends_of};
 
 use np_addr::Family;
 use np_base::{Cells, NoMemory, Steps};
@@ -66,6 +67,29 @@ pub fn set_by_kinds(
     let sender = sides.at(Direction::Egress, source);
     let receiver = sides.at(Direction::Ingress, destination);
     set_between(alloc, sender, receiver, family)
+}
+
+/// The same of the pods that stand for two kinds whose rules are known. What a side allows with a far pod is
+/// found once for all sides that are the same. As in `set_between`, the receiver's side is asked first.
+pub(crate) fn set_of_kinds(
+    sides: &mut Sides<'_>,
+    source: u32,
+    destination: u32,
+    family: Family,
+) -> Result<ConnSet, NoMemory>
+    requires { KnowsPair sides.old source destination }
+    ensures set { IfOk result (λ made. made ≡ conns_of_kinds sides.old.lists source destination family) }
+    ensures more { KnowsMore sides.old sides.new }
+    ensures lawful { IsLawful sides.old.lists }
+{
+    let sender = sides.at(Direction::Egress, source).pod();
+    let receiver = sides.at(Direction::Ingress, destination).pod();
+    let received = sides.pod_set(Direction::Ingress, destination, sender, family)?;
+    if received.is_empty() {
+        return Ok(received);
+    }
+    let sent = sides.pod_set(Direction::Egress, source, receiver, family)?;
+    sent.meet(&received)
 }
 
 /// The rules of a pod that sends, and those of one that receives.

@@ -5,13 +5,15 @@ ghost use Rattle.np_kinds.specs.Between as pairs;
 ghost use Rattle.np_kinds.specs.Prelude.{IsKindReach, IsWorkload};
 ghost use Rattle.np_table.specs.RowCache.{IsCached};
 ghost use Rattle.np_table.specs.Rows as spec;
+ghost use Rattle.np_table.specs.steps.PairSides.{KnowsPair, conns_of_kinds};
 ghost use Rattle.np_table.specs.Table.{estate_table};
 ghost use Rattle.np_table.specs.ToCome.{due_for_kinds, most_rules};
 
-use crate::pair_sets::count_ends;
+use crate::pair_sets::{count_ends, set_of_kinds};
 use crate::row_cache::RowCache;
 use crate::rows::Row;
-use crate::rows_of_pairs::{pair_key, rows_between};
+use crate::rows_of_pairs::{add_row, pair_key, rows_of_both};
+use np_addr::Family;
 use np_base::{NoMemory, Seq, Steps};
 use np_fold::Workloads;
 use np_kinds::{KindReach, Sides};
@@ -90,8 +92,32 @@ fn rows_of_kinds<L: Ledger>(
     let receiver = sides.at(Direction::Ingress, pair.destination);
     let families = sides.folded().estate().families();
     count_ends(sender, receiver, families, steps);
+    rows_of_sides(alloc, sides, pair, families)
+}
+
+// The rows of two workloads by the rules of their kinds, which are known, in the families of the list.
+#[tactic(auto, using(crate::proofs::KindSets::pair_stays_known))]
+fn rows_of_sides(
+    alloc: Global,
+    sides: &mut Sides<'_>,
+    pair: WorkloadPair,
+    families: &[Family],
+) -> Result<Seq<Row>, NoMemory>
+    requires { KnowsPair sides.old pair.source pair.destination }
+    ensures rows { IfOk result (λ made. made ≡ spec.rows_in families.now (spec.pair_key pair.source pair.destination)
+        (conns_of_kinds sides.old.lists pair.source pair.destination)) }
+    ensures lists { sides.new.lists ≡ sides.old.lists }
+{
     let key = pair_key(pair.source, pair.destination);
-    rows_between(alloc, families, &key, sender, receiver)
+    if families.len() != 1 {
+        let four = set_of_kinds(sides, pair.source, pair.destination, Family::Four)?;
+        let six = set_of_kinds(sides, pair.source, pair.destination, Family::Six)?;
+        return rows_of_both(alloc, &key, four, six);
+    }
+    let conns = set_of_kinds(sides, pair.source, pair.destination, families[0])?;
+    let mut rows = Seq::new(alloc);
+    add_row(&mut rows, &key, None, conns)?;
+    Ok(rows)
 }
 
 // Whether a workload of one pod meets itself.

@@ -69,8 +69,8 @@ pub(crate) fn pair_key(source: u32, destination: u32) -> RowKey
     }
 }
 
-// One row where the connections of both families are the same, else a row for each.
-fn rows_of_both(
+/// One row where the connections of both families are the same, else a row for each.
+pub(crate) fn rows_of_both(
     alloc: Global,
     key: &RowKey,
     four: ConnSet,
@@ -88,8 +88,8 @@ fn rows_of_both(
     Ok(rows)
 }
 
-// Adds the row of some connections, where there are any.
-fn add_row(
+/// Adds the row of some connections, where there are any.
+pub(crate) fn add_row(
     rows: &mut Seq<Row>,
     key: &RowKey,
     family: Option<Family>,
