@@ -193,6 +193,6 @@ impl<'a> Checker<'a> {
             ≡ conns_of (pair_allows self.old (folding_of self.old) source destination family)) }
         ensures same { self.new ≡ self.old }
     {
-        set_by_kinds(self.alloc, &mut self.sides, source, destination, family)
+        set_by_kinds(&mut self.sides, source, destination, family)
     }
 }

@@ -50,7 +50,6 @@ pub fn pair_set(
 /// for their kinds, which are found unless they are known. It is right of a workload with itself, too, where that has two
 /// pods.
 pub fn set_by_kinds(
-    alloc: Global,
     sides: &mut Sides<'_>,
     source: u32,
     destination: u32,
@@ -64,12 +63,10 @@ pub fn set_by_kinds(
     ensures lists { sides.new.lists ≡ sides.old.lists }
 {
     sides.ask_pair(source, destination)?;
-    let sender = sides.at(Direction::Egress, source);
-    let receiver = sides.at(Direction::Ingress, destination);
-    set_between(alloc, sender, receiver, family)
+    set_of_kinds(sides, source, destination, family)
 }
 
-/// The same of the pods that stand for two kinds whose rules are known. What a side allows with a far pod is
+/// The same where the rules of both kinds are known, of the pods that stand for these. What a side allows with a far pod is
 /// found once for all sides that are the same. As in `set_between`, the receiver's side is asked first.
 pub(crate) fn set_of_kinds(
     sides: &mut Sides<'_>,

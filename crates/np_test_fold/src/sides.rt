@@ -57,7 +57,7 @@ fn is_set_right(alloc: Global, sides: &mut Sides<'_>) -> Result<bool, NoMemory>
     requires { number_of_workloads sides.old.lists ≡ 2 }
     ensures { sides.new.lists ≡ sides.old.lists }
 {
-    let conns = set_by_kinds(alloc, sides, 0, 1, Family::Four)?;
+    let conns = set_by_kinds(sides, 0, 1, Family::Four)?;
     are_conns(alloc, &conns, PAIR)
 }
 

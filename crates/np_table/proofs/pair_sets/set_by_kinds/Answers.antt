@@ -1,16 +1,21 @@
-use Rattle.std.proofs.Common.{◌∙◌}
+use Rattle.std.proofs.Common.{refl, subst, sym, ◌∙◌}
 use Rattle.std.proofs.lemmas.Result.{IfOk-weaker}
+use Rattle.np_kinds.specs.Prelude.{IsWorkload, kind_side}
 use Rattle.np_table.proofs.SideLemmas.{sides-stand}
 use Rattle.np_table.proofs.pair_sets.set_by_kinds.Goals as goal
+use Rattle.np_table.specs.Prelude.{Egress, EstateLists, Ingress}
 
-pub set_between-requires : goal.set_between-requires
-set_between-requires c =
-    let stand = sides-stand c.args.sides.now.lists c.ask_pair.new.self.lists c.args.source c.args.destination c.at-sender.result.now c.at-receiver.result.now c.ask_pair.ensures.more.lists
-    c.at-sender.ensures.lawful c.requires.source c.requires.destination c.at-sender.ensures.side c.at-receiver.ensures.side in
-    stand.both
+pub set_of_kinds-requires : goal.set_of_kinds-requires
+set_of_kinds-requires c = record {
+  source_in = subst (λ (l : EstateLists). IsWorkload l c.args.source) (sym c.ask_pair.ensures.more.lists) c.requires.source;
+  destination_in = subst (λ (l : EstateLists). IsWorkload l c.args.destination) (sym c.ask_pair.ensures.more.lists) c.requires.destination;
+  sends = c.in_ok-ask_pair.ensures.sender;
+  receives = c.in_ok-ask_pair.ensures.receiver;
+}
 
 pub returns-clause-set : goal.returns-clause-set
 returns-clause-set c =
-    let stand = sides-stand c.args.sides.now.lists c.ask_pair.new.self.lists c.args.source c.args.destination c.at-sender.result.now c.at-receiver.result.now c.ask_pair.ensures.more.lists
-    c.at-sender.ensures.lawful c.requires.source c.requires.destination c.at-sender.ensures.side c.at-receiver.ensures.side in
-    IfOk-weaker c.set_between.result _ _ (λ made is. is ∙ stand.conns c.args.family c.requires.apart) c.set_between.ensures
+    let lists = c.ask_pair.new.self.lists in
+    let stand = sides-stand c.args.sides.now.lists lists c.args.source c.args.destination (kind_side lists Egress c.args.source) (kind_side lists Ingress c.args.destination)
+    c.ask_pair.ensures.more.lists c.set_of_kinds.ensures.lawful c.requires.source c.requires.destination refl refl in
+    IfOk-weaker c.set_of_kinds.result _ _ (λ made is. is ∙ stand.conns c.args.family c.requires.apart) c.set_of_kinds.ensures.set
