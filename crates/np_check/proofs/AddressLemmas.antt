@@ -1,4 +1,4 @@
--- The first packet between a workload and addresses. For `first_from_addresses`, `first_from` and `first_to_addresses`.
+-- The first packet between a workload and addresses. For `first_from_addresses`, `first_from` and 2 more.
 use Rattle.std.proofs.Common.{◌≡◌, ℕ, ◌+◌, ◌<◌, List, [], ◌∷◌, Option, Some, None, get_or, length, option_map, take, refl, sym, ap, ◌∙◌, inl, inr}
 use Rattle.std.specs.Option.{option_or}
 use Rattle.std.proofs.lemmas.List.{take_more}

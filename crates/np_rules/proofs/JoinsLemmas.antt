@@ -1,4 +1,4 @@
--- Sets joined one after another, and in halves. For `joined_by_halves` and `joined_set`.
+-- Sets joined one after another, and in halves. For `joined_by_halves`, `joined_rules` and `joined_set`.
 use Rattle.std.proofs.Common.{◌≡◌, ℕ, List, Bool, ◌||◌, ◌++◌, take, drop, sym, ap, ◌∙◌}
 use Rattle.std.specs.List.{list_any}
 use Rattle.std.proofs.lemmas.List.{take-append-drop}

@@ -1,4 +1,5 @@
--- Entries that name ports of which an end has none. For `AdminPortPortEntry::names_no_port` and `NetPortPortEntry::names_no_port`.
+-- Entries that name ports of which an end has none.
+-- For `AdminPortPortEntry::names_no_port`, `NetPortPortEntry::names_no_port` and `entries_toward`.
 use Rattle.std.proofs.Common.{◌≡◌, ℕ, List, ◌++◌, [], ◌∷◌, Bool, true, false, not, ◌||◌, ◌<◌, ◌+◌, take, get_or, refl, sym, ap, ◌∙◌, length}
 use Rattle.std.specs.Bool.{OnTrue}
 use Rattle.std.specs.List.{list_any}

@@ -1,4 +1,5 @@
--- Pods that the policies of an estate do not tell apart have sides that are the same. For `is_same_side` and crates above.
+-- Pods that the policies of an estate do not tell apart have sides that are the same.
+-- For `is_alike_for_net`, `is_same_side` and crates above.
 use Rattle.std.proofs.Common.{◌≡◌, ℕ, List, [], ◌∷◌, ◌++◌, Bool, map, filter, find, true, false, ◌&&◌, Option, None, Some, is_some, refl, sym, ap, ◌∙◌, if◌then◌else◌}
 use Rattle.std.specs.Cmp.{booleans_Decides}
 use Rattle.std.specs.List.{AllByRecursion, enumerate_from, list_all, list_any}

@@ -1,5 +1,4 @@
--- What passes between the pods that stand for kinds, by the sets that their sides allow.
--- For `set_of_kinds` and `rows_of_sides`.
+-- What passes between the pods that stand for kinds, by the sets that their sides allow. For `set_of_kinds`.
 use Rattle.std.proofs.Common.{◌≡◌, ◌<◌, ℕ, Bool, true, false, ◌&&◌, is_some, length, slice_index, refl, sym, ap, subst, ◌∙◌}
 use Rattle.np_conns.specs.Prelude.{Conns, IsConns, has_spot, is_spot}
 use Rattle.np_fold.specs.Prelude.{folding_of}
