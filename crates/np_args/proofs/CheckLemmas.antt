@@ -1,5 +1,5 @@
 -- The command line of `check`: clap is exact for it, and what its values make. For `statement_is_read_after_its_option`.
-use Rattle.std.proofs.Common.{◌≡◌, ◌∙◌, ◌+◌, ◌∷◌, ◌++◌, [], ap, arith, Bool, List, None, Option, Some, codes, false, fold, if◌then◌else◌, refl, sym, true}
+use Rattle.std.proofs.Common.{◌≡◌, ◌∙◌, ◌+◌, ◌∷◌, ◌++◌, [], ap, arith, Bool, List, None, Option, Some, codes, false, fold, if◌then◌else◌, refl, sym, true, bytes_eq}
 use Rattle.std.proofs.lemmas.Bool.{false_from_ne_true, false≢true, lt-ltb, ltb-true}
 use Rattle.std.proofs.lemmas.List.Sums.{sum_by-cons}
 use Rattle.std.specs.List.{count_by, list_all}
@@ -10,7 +10,7 @@ use Rattle.clap.specs.Walk.{Row, Walk, finished, walked}
 use Rattle.np_addr.specs.Prelude.{◌>>=◌}
 use Rattle.np_args.proofs.BehindLemmas.{Holds, IsWalked, Makes, apart, faults_from, joined, optioned, row_of_value}
 use Rattle.np_args.proofs.FileLemmas.{TakesFiles, after, plain_words}
-use Rattle.np_args.specs.Prelude.{Check as CheckJob, Job, Word, are_files, check_command, check_job, check_of, checked_files, is_plain, is_standard_input, job_of, or_standard_input, required_rule}
+use Rattle.np_args.specs.Prelude.{Check as CheckJob, Job, Word, are_files, check_command, check_of, checked_files, is_plain, job_of, or_standard_input, required_rule}
 
 -- the statement file and the files, where each is there
 abbrev pub checked_of : Option (List Word) → Option Word → Option Job
@@ -82,6 +82,9 @@ makes_joined value = record {
 }
 
 -- one more name does not name standard input less often
+abbrev is_standard_input : Word → Bool
+is_standard_input name = bytes_eq name (codes "-")
+
 often_with : (statement : Word) (files : List Word) → are_files files ≡ false → are_files (statement ∷ files) ≡ false
 often_with statement files often =
     let more : count_by is_standard_input (statement ∷ files) ≡ (if is_standard_input statement then 1 else 0) + count_by is_standard_input files =
@@ -101,7 +104,6 @@ with_statement statement files = go (are_files files) refl
 asked_apart : (statement : Word) (names : List Word) → is_plain statement ≡ true → list_all is_plain names ≡ true
     → job_of (codes "check" ∷ codes "--statement" ∷ statement ∷ names)
     ≡ (if are_files (statement ∷ or_standard_input names) then Some (CheckJob statement (or_standard_input names)) else None)
-unfolding check_job
 asked_apart statement names word plain =
     optioned check_command check_of (codes "check") check_walked takes (codes "--statement" ∷ statement ∷ []) (apart (codes "statement") statement) (statement_row statement ∷ []) (asks statement)
     (held_apart statement word) (makes_apart statement) names plain
@@ -110,7 +112,6 @@ asked_apart statement names word plain =
 asked_joined : (statement : Word) (names : List Word) → list_all is_plain names ≡ true
     → job_of (codes "check" ∷ (codes "--statement=" ++ statement) ∷ names)
     ≡ (if are_files (statement ∷ or_standard_input names) then Some (CheckJob statement (or_standard_input names)) else None)
-unfolding check_job
 asked_joined statement names plain =
     optioned check_command check_of (codes "check") check_walked takes ((codes "--statement=" ++ statement) ∷ []) (joined (statement_row statement)) (statement_row statement ∷ []) (asks statement)
     (held_joined statement) (makes_joined statement) names plain
@@ -135,5 +136,5 @@ pub statement_alone : job_of (codes "check" ∷ codes "--statement" ∷ codes "-
 statement_alone = asked_apart (codes "-") [] refl refl
 
 pub no_statement : job_of (codes "check" ∷ []) ≡ None
-unfolding check_job clap_on_literals
+unfolding clap_on_literals
 no_statement = refl

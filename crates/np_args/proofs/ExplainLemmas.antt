@@ -4,7 +4,7 @@ use Rattle.std.proofs.Common.{◌≡◌, ◌∙◌, ◌∷◌, ◌++◌, [], ap,
 use Rattle.clap.proofs.OnLiterals.{clap_on_literals}
 use Rattle.clap.specs.Walk.{Row}
 use Rattle.np_addr.specs.Prelude.{◌>>=◌}
-use Rattle.np_args.specs.Prelude.{EndWord, Explain as ExplainJob, Job, Word, explain_job, explain_of, files_in, job_of, packet_end_of, value_in}
+use Rattle.np_args.specs.Prelude.{EndWord, Explain as ExplainJob, Job, Word, explain_of, files_in, job_of, packet_end_of, value_in}
 
 -- the ends of these values, where each is there
 abbrev ends_of : Option (List Word) → Option EndWord → Option EndWord → Option Job
@@ -20,7 +20,7 @@ explain_of-values rows files from to one two three = rw (one, two, three) refl
 
 -- both options, and no file
 asked_ends : (from to : Word) → job_of (codes "explain" ∷ (codes "--from=" ++ from) ∷ (codes "--to=" ++ to) ∷ []) ≡ ends_of (Some (codes "-" ∷ [])) (packet_end_of from) (packet_end_of to)
-unfolding explain_job clap_on_literals
+unfolding clap_on_literals
 asked_ends from to = refl
 
 pub explained_job : (from to : Word) (source destination : EndWord) → packet_end_of from ≡ Some source → packet_end_of to ≡ Some destination

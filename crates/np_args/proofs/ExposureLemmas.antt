@@ -4,7 +4,7 @@ use Rattle.std.proofs.Common.{◌≡◌, ◌∙◌, ◌∷◌, ◌++◌, [], ap,
 use Rattle.clap.proofs.OnLiterals.{clap_on_literals}
 use Rattle.clap.specs.Walk.{Row, first_of}
 use Rattle.np_addr.specs.Prelude.{◌>>=◌}
-use Rattle.np_args.specs.Prelude.{Exposure as ExposureJob, Format, Job, Plain, Word, exposure_job, exposure_of, files_in, format_of, job_of, value_in}
+use Rattle.np_args.specs.Prelude.{Exposure as ExposureJob, Format, Job, Plain, Word, exposure_of, files_in, format_of, job_of, value_in}
 
 -- the workloads of these values, where each is there
 abbrev shown_of : Option Format → Option (List Word) → Option Word → Option Job
@@ -21,17 +21,17 @@ exposure_of-values rows format files workload one two three = rw (one, two, thre
 -- ---- words
 
 pub all_exposed : job_of (codes "exposure" ∷ []) ≡ Some (ExposureJob None Plain (codes "-" ∷ []))
-unfolding exposure_job clap_on_literals
+unfolding clap_on_literals
 all_exposed = refl
 
 -- the format, and no file
 asked_format : (value : Word) → job_of (codes "exposure" ∷ (codes "--format=" ++ value) ∷ []) ≡ shown_of (format_of value) (Some (codes "-" ∷ [])) None
-unfolding exposure_job clap_on_literals
+unfolding clap_on_literals
 asked_format value = refl
 
 -- the name, and no file
 pub exposed_workload : (name : Word) → job_of (codes "exposure" ∷ (codes "--workload=" ++ name) ∷ []) ≡ Some (ExposureJob (Some name) Plain (codes "-" ∷ []))
-unfolding exposure_job clap_on_literals
+unfolding clap_on_literals
 exposed_workload name = refl
 
 pub exposed_format : (value : Word) (format : Format) → format_of value ≡ Some format

@@ -6,7 +6,7 @@ use Rattle.clap.specs.Simple.{built}
 use Rattle.clap.specs.Walk.{finished, nothing_held}
 use Rattle.np_args.proofs.BehindLemmas.{IsWalked, Makes, faults_from, nothing_holds, nothing_met, once_or_alone, optioned}
 use Rattle.np_args.proofs.FileLemmas.{TakesFiles, after}
-use Rattle.np_args.specs.Prelude.{Flatten as FlattenJob, Job, Unused as UnusedJob, Word, are_files, asked_of, checked_files, files_command, files_of, flatten_job, is_plain, job_of, or_standard_input, unused_job}
+use Rattle.np_args.specs.Prelude.{Flatten as FlattenJob, Job, Unused as UnusedJob, Word, are_files, asked_of, checked_files, files_command, files_of, is_plain, job_of, or_standard_input}
 
 -- ---- words
 
@@ -46,9 +46,7 @@ module _ (job : List Word → Job) where
       ∙ ap (λ (few : Bool). option_map job (if few then Some (or_standard_input names) else None)) (once_or_alone names once)
 
 pub unused_files : (names : List Word) → list_all is_plain names ≡ true → are_files names ≡ true → job_of (codes "unused" ∷ names) ≡ Some (UnusedJob (or_standard_input names))
-unfolding unused_job
 unused_files names plain once = files_named UnusedJob (codes "unused") names plain once
 
 pub flatten_files : (names : List Word) → list_all is_plain names ≡ true → are_files names ≡ true → job_of (codes "flatten" ∷ names) ≡ Some (FlattenJob (or_standard_input names))
-unfolding flatten_job
 flatten_files names plain once = files_named FlattenJob (codes "flatten") names plain once

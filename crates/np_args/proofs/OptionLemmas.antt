@@ -18,11 +18,10 @@ use Rattle.clap.specs.declared.error.kind.ErrorKind.TheVariants.{ArgumentConflic
 use Rattle.np_args.proofs.BehindLemmas.{faults_from, nothing_met}
 use Rattle.np_args.proofs.FileLemmas.{after, end, first_all_pass, front, start}
 use Rattle.np_args.proofs.ListLemmas.{rules, shape, takes}
-use Rattle.np_args.specs.Prelude.{Word, is_empty, is_list_option, is_plain, job_of, list_command, list_job, list_job_of}
+use Rattle.np_args.specs.Prelude.{Word, is_empty, is_list_option, is_plain, job_of, list_command, list_job_of}
 
 -- words with a fault ask for nothing
 faulty : (words : List Word) (fault : ErrorKind) → walk_fault shape [] (start false nothing_held) words ≡ fault ∷ [] → job_of (codes "list" ∷ words) ≡ None
-unfolding list_job
 faulty words fault is =
     let all : fault_of list_command (codes "list" ∷ words) ≡ fault ∷ [] =
     ap (λ (kinds : Kinds). faults_from (built list_command) kinds (walk rules [] nothing_held words)) is in
@@ -119,30 +118,32 @@ long_job names first rest others plain other = unknown_job names (45 ∷ 45 ∷ 
 
 -- ---- an option that is given twice
 
--- two words that give it
+-- two words that give it, and others
+abbrev twice : Word → Word → Word → List Word → List Word
+twice name first second others = (codes "--" ++ name ++ codes "=" ++ first) ∷ (codes "--" ++ name ++ codes "=" ++ second) ∷ others
+
 abbrev IsRefused : Word → Type 0
-IsRefused name = (first second : Word) (others : List Word)
-    → job_of (codes "list" ∷ (codes "--" ++ name ++ codes "=" ++ first) ∷ (codes "--" ++ name ++ codes "=" ++ second) ∷ others) ≡ None
+IsRefused name = (first second : Word) (others : List Word) → job_of (codes "list" ∷ twice name first second others) ≡ None
 
 format_twice : IsRefused (codes "format")
 unfolding clap_on_literals
-format_twice first second others = faulty _ ArgumentConflict refl
+format_twice first second others = faulty (twice (codes "format") first second others) ArgumentConflict refl
 
 report_twice : IsRefused (codes "report")
 unfolding clap_on_literals
-report_twice first second others = faulty _ ArgumentConflict refl
+report_twice first second others = faulty (twice (codes "report") first second others) ArgumentConflict refl
 
 controller_twice : IsRefused (codes "controller")
 unfolding clap_on_literals
-controller_twice first second others = faulty _ ArgumentConflict refl
+controller_twice first second others = faulty (twice (codes "controller") first second others) ArgumentConflict refl
 
 focus_twice : IsRefused (codes "focus")
 unfolding clap_on_literals
-focus_twice first second others = faulty _ ArgumentConflict refl
+focus_twice first second others = faulty (twice (codes "focus") first second others) ArgumentConflict refl
 
 side_twice : IsRefused (codes "side")
 unfolding clap_on_literals
-side_twice first second others = faulty _ ArgumentConflict refl
+side_twice first second others = faulty (twice (codes "side") first second others) ArgumentConflict refl
 
 named : (known name : Word) → bytes_eq known name ≡ true → IsRefused known → IsRefused name
 named known name same refuses = subst IsRefused ((bytes_eq-Decides known name).0 same) refuses

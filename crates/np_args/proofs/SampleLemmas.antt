@@ -3,13 +3,13 @@ use Rattle.std.proofs.Common.{◌≡◌, ◌≢◌, ◌∙◌, ◌∷◌, ◌≤
 use Rattle.clap.proofs.OnLiterals.{clap_on_literals}
 use Rattle.np_args.proofs.FileLemmas.{plain_words}
 use Rattle.np_args.proofs.NumberLemmas.{number_to-decimal, number_to-plain}
-use Rattle.np_args.specs.Prelude.{Sample as SampleJob, Word, count_of, is_plain, job_of, sample_job}
+use Rattle.np_args.specs.Prelude.{Sample as SampleJob, Word, is_plain, job_of, number_to}
 
 -- ---- words
 
 -- one word that is no option
-asked_number : (word : Word) → is_plain word ≡ true → job_of (codes "sample" ∷ word ∷ []) ≡ option_map SampleJob (count_of word)
-unfolding sample_job clap_on_literals
+asked_number : (word : Word) → is_plain word ≡ true → job_of (codes "sample" ∷ word ∷ []) ≡ option_map SampleJob (number_to 1000 word)
+unfolding clap_on_literals
 asked_number word plain = let no = plain_words word plain in rw (no.hyphens, no.long, no.short) refl
 
 pub sampled : (n : ℕ) → 1 ≤ n → n ≤ 1000 → job_of (codes "sample" ∷ decimal n ∷ []) ≡ Some (SampleJob n)
@@ -18,18 +18,18 @@ sampled n low high =
     asked_number (decimal n) (number_to-plain 1000 (decimal n) n reads) ∙ ap (option_map SampleJob) reads
 
 pub no_number : (word : Word) → is_plain word ≡ true → ((n : ℕ) → 1 ≤ n → n ≤ 1000 → word ≢ decimal n) → job_of (codes "sample" ∷ word ∷ []) ≡ None
-no_number word plain none = go (count_of word) refl
+no_number word plain none = go (number_to 1000 word) refl
   where
-    go : (found : Option ℕ) → count_of word ≡ found → job_of (codes "sample" ∷ word ∷ []) ≡ None
+    go : (found : Option ℕ) → number_to 1000 word ≡ found → job_of (codes "sample" ∷ word ∷ []) ≡ None
     go None is = asked_number word plain ∙ ap (option_map SampleJob) is
     go (Some n) is = let number = (number_to-decimal 1000 (omega arith) word n).0 is in absurd (none n number.0 number.1 number.2)
 
 pub no_word : job_of (codes "sample" ∷ []) ≡ None
-unfolding sample_job clap_on_literals
+unfolding clap_on_literals
 no_word = refl
 
 pub two_words : (first second : Word) (others : List Word) → is_plain first ≡ true → is_plain second ≡ true → job_of (codes "sample" ∷ first ∷ second ∷ others) ≡ None
-unfolding sample_job clap_on_literals
+unfolding clap_on_literals
 two_words first second others one two =
     let no = plain_words first one in
     let nor = plain_words second two in

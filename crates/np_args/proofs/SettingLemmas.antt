@@ -9,7 +9,7 @@ use Rattle.np_args.proofs.BehindLemmas.{Holds, Makes, faults_from, once_or_alone
 use Rattle.np_args.proofs.FileLemmas.{IsMet, after, start}
 use Rattle.np_args.proofs.ListLemmas.{list_of-values, list_walked, rules, shape, takes}
 use Rattle.np_args.proofs.WordLemmas.{format_word-read, report_word-read, side_word-read}
-use Rattle.np_args.specs.Prelude.{Job, Setting, Table, Word, are_files, checked_files, controller_is, default_rule, default_table, files_in, focus_is, focus_side_of, format_is, format_of, format_word, is_plain, is_same_option, job_of, list_command, list_job, list_job_of, option_rule, or_standard_input, report_is, report_of, report_word, setting_word, side_is, side_word, table_job, value_in, with_setting}
+use Rattle.np_args.specs.Prelude.{Job, Setting, Table, Word, are_files, checked_files, controller_is, default_rule, default_table, files_in, focus_is, focus_side_of, format_is, format_of, format_word, is_plain, is_same_option, job_of, list_command, list_job_of, option_rule, or_standard_input, report_is, report_of, report_word, setting_word, side_is, side_word, table_job, value_in, with_setting}
 
 -- ---- what clap notes of a setting
 
@@ -224,7 +224,6 @@ taken a b files once =
 
 pub settings_job : (a b : Setting) (names : List Word) → is_same_option a b ≡ false → list_all is_plain names ≡ true → are_files names ≡ true
     → job_of (codes "list" ∷ setting_word a ∷ setting_word b ∷ names) ≡ Some (table_job (table_with a b) (or_standard_input names))
-unfolding list_job
 settings_job a b names differ plain once =
     optioned list_command list_job_of (codes "list") list_walked takes (setting_word a ∷ setting_word b ∷ []) (both a b) (rows_of a b) (gives a b)
     (holds a b differ) (makes a b differ) names plain

@@ -10,7 +10,7 @@ use Rattle.clap.specs.Walk.{Held, Row, Walk, finished, nothing_held, walked}
 use Rattle.np_args.proofs.BehindLemmas.{Holds, Makes, apart, asked, faults_from, joined, nothing_holds, nothing_met, once_or_alone, optioned, row_of_value}
 use Rattle.np_args.proofs.FileLemmas.{Ends, after, begun_end, end, front, in_order, plain_words, split_end}
 use Rattle.np_args.proofs.ListLemmas.{list_walked, rules, shape, takes}
-use Rattle.np_args.specs.Prelude.{Job, Report, Two, Word, are_files, checked_files, default_rule, is_plain, job_of, list_command, list_job, list_job_of, option_rule, or_standard_input, report_of, text_table}
+use Rattle.np_args.specs.Prelude.{Job, Report, Two, Word, are_files, checked_files, default_rule, is_plain, job_of, list_command, list_job_of, option_rule, or_standard_input, report_of, text_table}
 
 -- ---- words of `list`
 
@@ -20,13 +20,11 @@ MakesTable held options gives = Makes list_command list_job_of held options give
 
 asked_list : (words : List Word) (final : Walk) → Ends shape nothing_held words final → faults_from (built list_command) [] final ≡ []
     → job_of (codes "list" ∷ words) ≡ list_job_of (finished rules final.held)
-unfolding list_job
 asked_list words final ends clean = asked list_command list_job_of (codes "list") list_walked words final ends clean
 
 optioned_job : (first : List Word) (held : Held) (options : List Row) (gives : List Word → Option Job)
     → Holds shape first held → MakesTable held options gives → (names : List Word) → list_all is_plain names ≡ true
     → job_of (codes "list" ∷ first ++ names) ≡ gives (or_standard_input names)
-unfolding list_job
 optioned_job first held options gives holds makes names plain = optioned list_command list_job_of (codes "list") list_walked takes first held options gives holds makes names plain
 
 -- the table of files that name standard input at most once
@@ -66,7 +64,7 @@ plain_job names plain once =
 
 pub split_job : (names others : List Word) → list_all is_plain names ≡ true → are_files (names ++ others) ≡ true
     → job_of (codes "list" ∷ names ++ codes "--" ∷ others) ≡ Some (text_table Two None None (or_standard_input (names ++ others)))
-unfolding list_job clap_on_literals
+unfolding clap_on_literals
 split_job [] [] plain once = refl
 split_job [] (other ∷ others) plain once =
     asked_list (codes "--" ∷ other ∷ others) _ (begun_end shape takes [] refl nothing_held (nothing_met shape) other others) (clean-none true (front [] other others) (end other others))

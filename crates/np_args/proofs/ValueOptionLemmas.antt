@@ -9,13 +9,12 @@ use Rattle.np_args.proofs.BehindLemmas.{Holds, Makes, apart, faults_from, joined
 use Rattle.np_args.proofs.FileLemmas.{after, plain_words}
 use Rattle.np_args.proofs.ListLemmas.{list_walked, rules, shape, takes}
 use Rattle.np_args.proofs.WordLemmas.{format-one_word, side-one_word}
-use Rattle.np_args.specs.Prelude.{Csv, Destination, Either, FocusSide, Format, Job, Json, Plain, Source, Table, Word, are_files, checked_files, default_rule, default_table, focus_side_of, format_of, format_word, is_plain, job_of, list_command, list_job, list_job_of, or_standard_input, side_word, table_job}
+use Rattle.np_args.specs.Prelude.{Csv, Destination, Either, FocusSide, Format, Job, Json, Plain, Source, Table, Word, are_files, checked_files, default_rule, default_table, focus_side_of, format_of, format_word, is_plain, job_of, list_command, list_job_of, or_standard_input, side_word, table_job}
 
 -- what is held gives this job with any files, and without them
 listed : (first : List Word) (held : Held) (options : List Row) (gives : List Word → Option Job)
     → Holds shape first held → Makes list_command list_job_of held options gives → (names : List Word) → list_all is_plain names ≡ true
     → job_of (codes "list" ∷ first ++ names) ≡ gives (or_standard_input names)
-unfolding list_job
 listed first held options gives holds makes names plain =
     optioned list_command list_job_of (codes "list") list_walked takes first held options gives holds makes names plain
 

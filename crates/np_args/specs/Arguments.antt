@@ -38,12 +38,9 @@ command_of name rules = record {
 abbrev pub value_in : {T : Type 0} → (Word → Option T) → Word → List Row → Option T
 value_in read name rows = option_and_then read (first_of name rows)
 
-abbrev pub is_standard_input : Word → Bool
-is_standard_input name = bytes_eq name (codes "-")
-
 -- whether standard input, which can be read once, is named at most once
 abbrev pub are_files : List Word → Bool
-are_files names = nat_lt (count_by is_standard_input names) 2
+are_files names = nat_lt (count_by (λ name. bytes_eq name (codes "-")) names) 2
 
 -- these files, where they name standard input at most once
 abbrev pub checked_files : List Word → Option (List Word)

@@ -3,8 +3,7 @@ use Rattle.std.specs.Prelude.{◌∷◌, [], List, None, Option, Some, codes, if
 use Rattle.clap.specs.Simple.{App}
 use Rattle.clap.specs.Walk.{Row, first_of}
 use Rattle.np_addr.specs.Prelude.{◌>>=◌}
-use Rattle.np_args.specs.Arguments.{are_files, asked_of, command_of, file_rule, files_in, required_rule}
-use Rattle.np_args.specs.Values.{Word}
+use Rattle.np_args.specs.Arguments.{are_files, command_of, file_rule, files_in, required_rule}
 use Rattle.np_args.specs.Types.{Check as CheckJob, Job}
 
 -- `check --statement FILE [FILE]...`
@@ -17,7 +16,3 @@ check_of rows = do
   files ← files_in rows
   statement ← first_of (codes "statement") rows
   if are_files (statement ∷ files) then Some (CheckJob statement files) else None
-
--- what words ask for of which the first is `check`
-unfoldable pub check_job : List Word → Option Job
-check_job words = asked_of check_command check_of words

@@ -3,20 +3,23 @@ use Rattle.std.specs.Prelude.{◌∷◌, [], List, None, Option, String, codes, 
 use Rattle.std.specs.Map.{lookup}
 use Rattle.std.specs.Str.{bytes_eq}
 use Rattle.std.specs.declared.alloc.Global.{Global}
-use Rattle.np_args.specs.CheckWords.{check_job}
-use Rattle.np_args.specs.EvaluateWords.{evaluate_job}
-use Rattle.np_args.specs.ExplainWords.{explain_job}
-use Rattle.np_args.specs.ExposureWords.{exposure_job}
-use Rattle.np_args.specs.FileWords.{flatten_job, unused_job}
-use Rattle.np_args.specs.ListWords.{list_job}
-use Rattle.np_args.specs.SampleWords.{sample_job}
+use Rattle.np_args.specs.Arguments.{asked_of}
+use Rattle.np_args.specs.CheckWords.{check_command, check_of}
+use Rattle.np_args.specs.EvaluateWords.{evaluate_command, evaluate_of}
+use Rattle.np_args.specs.ExplainWords.{explain_command, explain_of}
+use Rattle.np_args.specs.ExposureWords.{exposure_command, exposure_of}
+use Rattle.np_args.specs.FileWords.{files_command, files_of}
+use Rattle.np_args.specs.ListWords.{list_command, list_job_of}
+use Rattle.np_args.specs.SampleWords.{sample_command, sample_of}
 use Rattle.np_args.specs.Values.{Word}
-use Rattle.np_args.specs.Types.{Job}
+use Rattle.np_args.specs.Types.{Flatten as FlattenJob, Job, Unused as UnusedJob}
 
 -- what the words of each command ask for, by its name
 abbrev pub jobs : List (Word × (List Word → Option Job))
-jobs = (codes "list", list_job) ∷ (codes "explain", explain_job) ∷ (codes "exposure", exposure_job) ∷ (codes "evaluate", evaluate_job)
-    ∷ (codes "unused", unused_job) ∷ (codes "check", check_job) ∷ (codes "flatten", flatten_job) ∷ (codes "sample", sample_job) ∷ []
+jobs = (codes "list", asked_of list_command list_job_of) ∷ (codes "explain", asked_of explain_command explain_of)
+    ∷ (codes "exposure", asked_of exposure_command exposure_of) ∷ (codes "evaluate", asked_of evaluate_command evaluate_of)
+    ∷ (codes "unused", asked_of (files_command (codes "unused")) (files_of UnusedJob)) ∷ (codes "check", asked_of check_command check_of)
+    ∷ (codes "flatten", asked_of (files_command (codes "flatten")) (files_of FlattenJob)) ∷ (codes "sample", asked_of sample_command sample_of) ∷ []
 
 -- The first word is the command. Words that begin with no command ask for nothing.
 abbrev pub job_of : List Word → Option Job

@@ -3,8 +3,8 @@ use Rattle.std.specs.Prelude.{◌∷◌, [], List, Option, Some, codes}
 use Rattle.clap.specs.Simple.{App}
 use Rattle.clap.specs.Walk.{Row}
 use Rattle.np_addr.specs.Prelude.{◌>>=◌}
-use Rattle.np_args.specs.Arguments.{asked_of, command_of, file_rule, files_in, required_rule, value_in}
-use Rattle.np_args.specs.Values.{Word, packet_end_of}
+use Rattle.np_args.specs.Arguments.{command_of, file_rule, files_in, required_rule, value_in}
+use Rattle.np_args.specs.Values.{packet_end_of}
 use Rattle.np_args.specs.Types.{Explain as ExplainJob, Job}
 
 -- `explain --from END --to END [FILE]...`
@@ -18,7 +18,3 @@ explain_of rows = do
   from ← value_in packet_end_of (codes "from") rows
   to ← value_in packet_end_of (codes "to") rows
   Some (ExplainJob from to files)
-
--- what words ask for of which the first is `explain`
-unfoldable pub explain_job : List Word → Option Job
-explain_job words = asked_of explain_command explain_of words

@@ -3,8 +3,8 @@ use Rattle.std.specs.Prelude.{◌∷◌, [], List, Option, Some, codes}
 use Rattle.clap.specs.Simple.{App}
 use Rattle.clap.specs.Walk.{Row, first_of}
 use Rattle.np_addr.specs.Prelude.{◌>>=◌}
-use Rattle.np_args.specs.Arguments.{asked_of, command_of, default_rule, file_rule, files_in, option_rule, value_in}
-use Rattle.np_args.specs.Values.{Word, format_of}
+use Rattle.np_args.specs.Arguments.{command_of, default_rule, file_rule, files_in, option_rule, value_in}
+use Rattle.np_args.specs.Values.{format_of}
 use Rattle.np_args.specs.Types.{Exposure as ExposureJob, Job}
 
 -- `exposure [--workload NAME] [--format text|csv|json] [FILE]...`
@@ -16,7 +16,3 @@ exposure_command =
 abbrev pub exposure_of : List Row → Option Job
 exposure_of rows = do
   Some (ExposureJob (first_of (codes "workload") rows) (← value_in format_of (codes "format") rows) (← files_in rows))
-
--- what words ask for of which the first is `exposure`
-unfoldable pub exposure_job : List Word → Option Job
-exposure_job words = asked_of exposure_command exposure_of words

@@ -3,8 +3,8 @@ use Rattle.std.specs.Prelude.{◌∷◌, [], List, Option, Some, codes}
 use Rattle.clap.specs.Simple.{App}
 use Rattle.clap.specs.Walk.{Row, first_of}
 use Rattle.np_addr.specs.Prelude.{◌>>=◌}
-use Rattle.np_args.specs.Arguments.{asked_of, command_of, default_rule, file_rule, files_in, option_rule, value_in}
-use Rattle.np_args.specs.Values.{Word, focus_side_of, format_of, report_of}
+use Rattle.np_args.specs.Arguments.{command_of, default_rule, file_rule, files_in, option_rule, value_in}
+use Rattle.np_args.specs.Values.{focus_side_of, format_of, report_of}
 use Rattle.np_args.specs.Types.{Job, List as ListJob}
 
 -- `list [--format text|csv|json] [--report 1|2] [--controller NAME] [--focus NAME] [--side either|from|to] [FILE]...`
@@ -21,7 +21,3 @@ list_job_of rows = do
   side ← value_in focus_side_of (codes "side") rows
   files ← files_in rows
   Some (ListJob format report (first_of (codes "controller") rows) (first_of (codes "focus") rows) side files)
-
--- what words ask for of which the first is `list`
-unfoldable pub list_job : List Word → Option Job
-list_job words = asked_of list_command list_job_of words

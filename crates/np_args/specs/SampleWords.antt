@@ -3,8 +3,8 @@ use Rattle.std.specs.Prelude.{◌∷◌, [], List, Option, Some, codes, option_m
 use Rattle.clap.specs.Simple.{App, new_rule}
 use Rattle.clap.specs.Walk.{Row}
 use Rattle.clap.specs.declared.builder.action.ArgAction.TheVariants.{Set}
-use Rattle.np_args.specs.Arguments.{asked_of, command_of, value_in}
-use Rattle.np_args.specs.Values.{Word, count_of}
+use Rattle.np_args.specs.Arguments.{command_of, value_in}
+use Rattle.np_args.specs.Values.{number_to}
 use Rattle.np_args.specs.Types.{Job, Sample as SampleJob}
 
 -- `sample N`: one word, which must be given
@@ -13,8 +13,4 @@ sample_command = command_of (codes "sample") (record (new_rule (codes "N")) { ac
 
 -- the number of pods
 abbrev pub sample_of : List Row → Option Job
-sample_of rows = option_map SampleJob (value_in count_of (codes "N") rows)
-
--- what words ask for of which the first is `sample`
-unfoldable pub sample_job : List Word → Option Job
-sample_job words = asked_of sample_command sample_of words
+sample_of rows = option_map SampleJob (value_in (number_to 1000) (codes "N") rows)

@@ -32,11 +32,3 @@ abbrev pub number_to : ℕ → Word → Option ℕ
 number_to most word = let number = digits_value 10 word in
     if list_all (λ c. is_digit c 10) word && not (slice_index word 0 == 48) && nat_le 1 number && nat_le number most
     then Some number else None
-
--- `--port`
-abbrev pub packet_port_of : Word → Option ℕ
-packet_port_of word = number_to 65535 word
-
--- N of `sample`
-abbrev pub count_of : Word → Option ℕ
-count_of word = number_to 1000 word

@@ -2,7 +2,7 @@
 ghost use Rattle.std.specs.Prelude.{◌≡◌, ◌∷◌, refl};
 ghost use Rattle.clap.proofs.OnLiterals.{clap_on_literals};
 ghost use Rattle.np_args.specs.Arguments.{are_files};
-ghost use Rattle.np_args.specs.CheckWords.{check_command, check_job, check_of};
+ghost use Rattle.np_args.specs.CheckWords.{check_command, check_of};
 
 use crate::arguments::{file, required_option};
 use crate::command_words::CommandWords;
@@ -18,8 +18,6 @@ use std::alloc::{AllocError, Global};
 pub(crate) struct CheckWords;
 
 impl CommandWords for CheckWords {
-    ghost asked = { check_job };
-
     ghost line = { check_command };
 
     ghost made = { check_of };
@@ -43,8 +41,6 @@ impl CommandWords for CheckWords {
             Err(WordsFault::Usage)
         }
     }
-
-    ghost asks = { unfold check_job in λ words. refl };
 
     ghost exact = { unfold clap_on_literals in refl };
 }

@@ -16,9 +16,6 @@ use std::alloc::{AllocError, Global};
 
 /// A command: the words that it takes, and what they ask for.
 pub(crate) trait CommandWords {
-    /// The job that words ask for of which the first is the command, if they ask for one.
-    ghost asked: { List Word → Option SpecJob };
-
     /// The command line, as clap takes it.
     ghost line: { App };
 
@@ -35,18 +32,15 @@ pub(crate) trait CommandWords {
         ensures well { IfOk result IsWell }
         ensures usage { IsErrOf result WordsFault.Usage → made (rows_of (found_of matches.now)) ≡ None };
 
-    /// Words ask for what is made of what is found on the command line.
-    ghost asks: { (words : List Word) → asked words ≡ asked_of line made words };
-
     /// Clap says exactly what it answers for it.
     ghost exact: { is_simple_and_free line ≡ true };
 }
 
 /// The job of words of which the first is the command. `Usage` comes exactly where they ask for none.
 pub(crate) fn read<C: CommandWords>(alloc: Global, words: &[String]) -> Result<Job, WordsFault>
-    ensures job { IfOk result (λ job. C.asked (map string_bytes words.now) ≡ Some job) }
+    ensures job { IfOk result (λ job. asked_of C.line C.made (map string_bytes words.now) ≡ Some job) }
     ensures well { IfOk result IsWell }
-    ensures usage { IsErrOf result WordsFault.Usage → C.asked (map string_bytes words.now) ≡ None }
+    ensures usage { IsErrOf result WordsFault.Usage → asked_of C.line C.made (map string_bytes words.now) ≡ None }
 {
     let line = C::line(alloc)?;
     let matches = line.try_get_matches_from(words)?;

@@ -1,7 +1,7 @@
 //! The command line of `evaluate`.
 ghost use Rattle.std.specs.Prelude.{refl};
 ghost use Rattle.clap.proofs.OnLiterals.{clap_on_literals};
-ghost use Rattle.np_args.specs.EvaluateWords.{evaluate_command, evaluate_job, evaluate_of};
+ghost use Rattle.np_args.specs.EvaluateWords.{evaluate_command, evaluate_of};
 
 use crate::arguments::{file, required_option};
 use crate::command_words::CommandWords;
@@ -18,8 +18,6 @@ use std::alloc::{AllocError, Global};
 pub(crate) struct EvaluateWords;
 
 impl CommandWords for EvaluateWords {
-    ghost asked = { evaluate_job };
-
     ghost line = { evaluate_command };
 
     ghost made = { evaluate_of };
@@ -57,8 +55,6 @@ impl CommandWords for EvaluateWords {
             files,
         })
     }
-
-    ghost asks = { unfold evaluate_job in λ words. refl };
 
     ghost exact = { unfold clap_on_literals in refl };
 }

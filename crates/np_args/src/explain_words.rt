@@ -1,7 +1,7 @@
 //! The command line of `explain`.
 ghost use Rattle.std.specs.Prelude.{refl};
 ghost use Rattle.clap.proofs.OnLiterals.{clap_on_literals};
-ghost use Rattle.np_args.specs.ExplainWords.{explain_command, explain_job, explain_of};
+ghost use Rattle.np_args.specs.ExplainWords.{explain_command, explain_of};
 
 use crate::arguments::{file, required_option};
 use crate::command_words::CommandWords;
@@ -16,8 +16,6 @@ use std::alloc::{AllocError, Global};
 pub(crate) struct ExplainWords;
 
 impl CommandWords for ExplainWords {
-    ghost asked = { explain_job };
-
     ghost line = { explain_command };
 
     ghost made = { explain_of };
@@ -39,8 +37,6 @@ impl CommandWords for ExplainWords {
         let to = end_in(alloc, matches, "to")?;
         Ok(Job::Explain { from, to, files })
     }
-
-    ghost asks = { unfold explain_job in λ words. refl };
 
     ghost exact = { unfold clap_on_literals in refl };
 }

@@ -1,7 +1,7 @@
 //! The command line of `exposure`.
 ghost use Rattle.std.specs.Prelude.{refl};
 ghost use Rattle.clap.proofs.OnLiterals.{clap_on_literals};
-ghost use Rattle.np_args.specs.ExposureWords.{exposure_command, exposure_job, exposure_of};
+ghost use Rattle.np_args.specs.ExposureWords.{exposure_command, exposure_of};
 
 use crate::arguments::{file, option_of, option_or};
 use crate::command_words::CommandWords;
@@ -17,8 +17,6 @@ use std::alloc::{AllocError, Global};
 pub(crate) struct ExposureWords;
 
 impl CommandWords for ExposureWords {
-    ghost asked = { exposure_job };
-
     ghost line = { exposure_command };
 
     ghost made = { exposure_of };
@@ -47,8 +45,6 @@ impl CommandWords for ExposureWords {
             files,
         })
     }
-
-    ghost asks = { unfold exposure_job in λ words. refl };
 
     ghost exact = { unfold clap_on_literals in refl };
 }

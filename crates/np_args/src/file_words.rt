@@ -3,7 +3,6 @@ ghost use Rattle.std.specs.Prelude.{◌≡◌, IfOk, codes, refl};
 ghost use Rattle.clap.proofs.OnLiterals.{clap_on_literals};
 ghost use Rattle.clap.specs.Simple.{app_of};
 ghost use Rattle.np_args.specs.FileWords as spec;
-ghost use Rattle.np_args.specs.FileWords.{flatten_job, unused_job};
 ghost use Rattle.np_args.specs.declared.job.Job.TheVariants.{Flatten as FlattenJob, Unused as UnusedJob};
 
 use crate::arguments::file;
@@ -18,8 +17,6 @@ use std::alloc::{AllocError, Global};
 pub(crate) struct UnusedWords;
 
 impl CommandWords for UnusedWords {
-    ghost asked = { unused_job };
-
     ghost line = { spec.files_command (codes "unused") };
 
     ghost made = { spec.files_of UnusedJob };
@@ -33,8 +30,6 @@ impl CommandWords for UnusedWords {
         Ok(Job::Unused { files })
     }
 
-    ghost asks = { unfold unused_job in λ words. refl };
-
     ghost exact = { unfold clap_on_literals in refl };
 }
 
@@ -42,8 +37,6 @@ impl CommandWords for UnusedWords {
 pub(crate) struct FlattenWords;
 
 impl CommandWords for FlattenWords {
-    ghost asked = { flatten_job };
-
     ghost line = { spec.files_command (codes "flatten") };
 
     ghost made = { spec.files_of FlattenJob };
@@ -56,8 +49,6 @@ impl CommandWords for FlattenWords {
         let files = read_files(alloc, matches)?;
         Ok(Job::Flatten { files })
     }
-
-    ghost asks = { unfold flatten_job in λ words. refl };
 
     ghost exact = { unfold clap_on_literals in refl };
 }

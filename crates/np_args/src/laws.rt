@@ -4,7 +4,7 @@ ghost use Rattle.std.specs.Prelude.{◌≡◌, ◌≢◌, ◌==◌, ◌∷◌, �
 ghost use Rattle.std.specs.List.{before_first, list_all};
 ghost use Rattle.np_conns.specs.Prelude.{proto_named};
 ghost use Rattle.np_conns.specs.declared.proto.Proto.{Proto};
-ghost use Rattle.np_args.specs.Prelude.{Setting, Word, are_files, default_table, focus_side_of, format_of, format_word, is_list_option, is_plain, is_same_option, job_of, or_standard_input, packet_end_of, packet_port_of, report_of, report_word, setting_word, side_word, table_job, text_table, with_setting};
+ghost use Rattle.np_args.specs.Prelude.{Setting, Word, are_files, default_table, focus_side_of, format_of, format_word, is_list_option, is_plain, is_same_option, job_of, number_to, or_standard_input, packet_end_of, report_of, report_word, setting_word, side_word, table_job, text_table, with_setting};
 ghost use Rattle.np_args.specs.declared.end_word.EndWord.{EndWord};
 ghost use Rattle.np_args.specs.declared.focus_side.FocusSide.{FocusSide};
 ghost use Rattle.np_args.specs.declared.format.Format.{Format};
@@ -124,7 +124,7 @@ pub fn other_options_ask_for_nothing()
 pub fn packet_is_read_of_its_options()
     ensures { (from to proto port : Word) (source destination : EndWord) (named : Proto) (number : ℕ) →
         packet_end_of from ≡ Some source → packet_end_of to ≡ Some destination →
-        proto_named proto ≡ Some named → packet_port_of port ≡ Some number →
+        proto_named proto ≡ Some named → number_to 65535 port ≡ Some number →
         job_of (codes "evaluate" ∷ (codes "--from=" ++ from) ∷ (codes "--to=" ++ to)
         ∷ (codes "--protocol=" ++ proto) ∷ (codes "--port=" ++ port) ∷ [])
         ≡ Some (EvaluateJob source destination named number (codes "-" ∷ [])) }
@@ -181,7 +181,7 @@ pub fn sample_takes_one_number()
 /// The words that are ports are the decimals of the numbers from 1 to 65535.
 pub fn ports_are_decimals()
     ensures { (word : Word) (port : ℕ) →
-        (packet_port_of word ≡ Some port) ↔ ((1 ≤ port) × (port ≤ 65535) × (word ≡ decimal port)) }
+        (number_to 65535 word ≡ Some port) ↔ ((1 ≤ port) × (port ≤ 65535) × (word ≡ decimal port)) }
 {}
 
 /// The words that are formats, reports and sides: each of these has one word, and no other word is one.

@@ -1,7 +1,7 @@
 //! The command line of `list`.
 ghost use Rattle.std.specs.Prelude.{refl};
 ghost use Rattle.clap.proofs.OnLiterals.{clap_on_literals};
-ghost use Rattle.np_args.specs.ListWords.{list_command, list_job, list_job_of};
+ghost use Rattle.np_args.specs.ListWords.{list_command, list_job_of};
 
 use crate::arguments::{file, option_of, option_or};
 use crate::command_words::CommandWords;
@@ -19,8 +19,6 @@ use std::alloc::{AllocError, Global};
 pub(crate) struct ListWords;
 
 impl CommandWords for ListWords {
-    ghost asked = { list_job };
-
     ghost line = { list_command };
 
     ghost made = { list_job_of };
@@ -64,8 +62,6 @@ impl CommandWords for ListWords {
             files,
         })
     }
-
-    ghost asks = { unfold list_job in λ words. refl };
 
     ghost exact = { unfold clap_on_literals in refl };
 }

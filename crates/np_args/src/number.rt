@@ -1,13 +1,13 @@
 //! The numbers that words write.
 ghost use Rattle.std.specs.Prelude.{◌≡◌, ◌≤◌, IfSome};
-ghost use Rattle.np_args.specs.Prelude.{number_to, packet_port_of};
+ghost use Rattle.np_args.specs.Prelude.{number_to};
 
 use np_base::{Point, PortNum};
 
 /// The port that the word writes: a number from 1 to 65535 in decimal, without a sign or a leading zero. `None` for any
 /// other word.
 pub(crate) fn read_port(word: &str) -> Option<PortNum>
-    ensures { result ≡ packet_port_of word.now }
+    ensures { result ≡ number_to 65535 word.now }
 {
     let number = read_number(word, 65535)?;
     PortNum::at(u128::from(number))

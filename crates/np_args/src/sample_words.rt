@@ -1,7 +1,7 @@
 //! The command line of `sample`.
 ghost use Rattle.std.specs.Prelude.{refl};
 ghost use Rattle.clap.proofs.OnLiterals.{clap_on_literals};
-ghost use Rattle.np_args.specs.SampleWords.{sample_command, sample_job, sample_of};
+ghost use Rattle.np_args.specs.SampleWords.{sample_command, sample_of};
 
 use crate::command_words::CommandWords;
 use crate::job::Job;
@@ -14,8 +14,6 @@ use std::alloc::{AllocError, Global};
 pub(crate) struct SampleWords;
 
 impl CommandWords for SampleWords {
-    ghost asked = { sample_job };
-
     ghost line = { sample_command };
 
     ghost made = { sample_of };
@@ -34,8 +32,6 @@ impl CommandWords for SampleWords {
         let n = read_number(word, 1000).ok_or(WordsFault::Usage)?;
         Ok(Job::Sample { n })
     }
-
-    ghost asks = { unfold sample_job in λ words. refl };
 
     ghost exact = { unfold clap_on_literals in refl };
 }

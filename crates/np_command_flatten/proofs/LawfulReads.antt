@@ -6,7 +6,7 @@ use Rattle.std.specs.List.{AllByRecursion}
 use Rattle.std.specs.Prelude.{nat_le}
 use Rattle.serde_json.specs.Data.{Data}
 use Rattle.np_model.specs.Prelude.{IsLawful}
-use Rattle.np_reading.specs.Prelude.{estate_of, or_refused}
+use Rattle.np_reading.specs.Prelude.{estate_of, items_refusal}
 use Rattle.np_command_flatten.specs.Prelude.{EstateLists, Item}
 use Rattle.np_reading.proofs.LawfulReading.{estate_of_items-lawful}
 use Rattle.np_reading.proofs.ReadingLemmas.{estate_of-passed}
@@ -20,6 +20,7 @@ use Rattle.np_policies.proofs.ReadLemmas.{bind-output, then-output}
 use Rattle.np_policies.proofs.WellPolicies.{policy-well}
 use Rattle.np_policies.specs.Prelude.{policy_of}
 use Rattle.np_policies.specs.declared.policy.Policy.{Policy}
+use Rattle.std.specs.Result.{result_map_both}
 
 -- ---- items
 
@@ -71,14 +72,14 @@ items-well texts items is =
 
 -- ---- the estate
 
-accepted : (read : ItemsReading (List Item)) (items : List Item) → or_refused read ≡ Ok items → read ≡ Ok items
+accepted : (read : ItemsReading (List Item)) (items : List Item) → result_map_both (λ items. items) items_refusal read ≡ Ok items → read ≡ Ok items
 accepted (Ok found) items is = let same : found ≡ items = cc in ap Ok same
 accepted (Err fault) items is = cc
 
 pub estate-lawful : (texts : List (List ℕ)) (lists : EstateLists) → estate_of texts ≡ Ok lists → IsLawful lists
 unfolding estate_of
 estate-lawful texts lists is =
-    let read = bind-output (or_refused (items_of texts)) _ lists is in
+    let read = bind-output (result_map_both (λ items. items) items_refusal (items_of texts)) _ lists is in
     let items = read.first in
     let accepted_items = accepted (items_of texts) items read.here in
     let well = items-well texts items accepted_items in

@@ -35,12 +35,9 @@ abbrev pub items_from : ℕ → List Data → ItemsReading (List Item)
 items_from number [] = Ok []
 items_from number (value ∷ values) = do Ok ((← item_of number value) ∷ (← items_from (number + 1) values))
 
--- how many items are read at most
-abbrev pub most_items : ℕ
-most_items = 20000
-
+-- the rule that no more items are listed than are read
 unfoldable pub must_be_few : ℕ → ItemsReading ⊤
-must_be_few count = if nat_le count most_items then Ok tt else Err (TooManyItems count)
+must_be_few count = if nat_le count 20000 then Ok tt else Err (TooManyItems count)
 
 -- the items that all inputs list, numbered from 1 over all of them
 unfoldable pub items_of : List (List ℕ) → ItemsReading (List Item)

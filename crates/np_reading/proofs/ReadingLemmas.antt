@@ -1,7 +1,7 @@
 -- What is so of a list that is not refused. For OnceLemmas and crates above.
 use Rattle.std.proofs.Common.{◌≡◌, ℕ, List, Option, Some, None, Ok, Err, refl}
 use Rattle.std.specs.Prelude.{⊤}
-use Rattle.np_reading.specs.Prelude.{EstateLists, Item, Reading, Refusal, equal_priority, estate_of, estate_of_items, first_equal, have_names_apart, have_no_cycle, have_priorities_apart, ranks_of, refuse_found}
+use Rattle.np_reading.specs.Prelude.{EstateLists, Item, Reading, Refusal, EqualPriority, estate_of, estate_of_items, first_equal, have_names_apart, have_no_cycle, have_priorities_apart, ranks_of, refuse_found}
 use Rattle.np_items.specs.Prelude.{items_of}
 use Rattle.np_json.specs.Prelude.{◌>>◌}
 use Rattle.np_owners.specs.Prelude.{first_repeat}
@@ -23,4 +23,4 @@ pub estate_of-passed : (texts : List (List ℕ)) (items : List Item) (lists : Es
 unfolding estate_of
 estate_of-passed texts items lists read is =
     let parts = passed (have_names_apart items) (have_priorities_apart items) (have_no_cycle items) (estate_of_items items) lists (rw read at is) in
-    (none_found _ (first_repeat items) parts.0, none_found equal_priority (first_equal (ranks_of items)) parts.1, parts.2)
+    (none_found _ (first_repeat items) parts.0, none_found (λ ranks. EqualPriority ranks.0.priority ranks.0.name ranks.1.name) (first_equal (ranks_of items)) parts.1, parts.2)

@@ -3,24 +3,18 @@ use Rattle.std.specs.Prelude.{ℕ, List, length, ◌==◌, Bool, true, false, �
 use Rattle.std.specs.List.{count_by, list_any, range_with_len, slice_get}
 use Rattle.std.specs.Option.{option_and_then, option_map_or}
 use Rattle.np_reading.specs.Ends.{is_on_host}
-use Rattle.np_reading.specs.Types.{AdminPolicy, BasePolicy, Finished, Host, Item, LeftOut, Pod, PodItem, Skipped}
+use Rattle.np_reading.specs.Types.{AdminPolicy, BasePolicy, Finished, Host, Item, LeftOut, Pod, Skipped}
 use Rattle.np_items.specs.declared.item.Item.TheVariants as item
 use Rattle.np_objects.specs.declared.object.Object.TheVariants as object
 use Rattle.np_owners.specs.Prelude.{makes_pod}
 use Rattle.np_model.specs.declared.admin_policy.AdminRule.{AdminRule}
 use Rattle.np_model.specs.Prelude.{is_networks}
 
-abbrev pub if_counts : Bool → LeftOut → Option LeftOut
-if_counts counts why = if counts then Some why else None
-
--- a pod that is on the network of its node and finished counts for the first alone
-abbrev pub pod_left_out : PodItem → Option LeftOut
-pod_left_out pod = if pod.host_network then Some Host else if_counts pod.finished Finished
-
--- why an item is left out, if it is one that is counted; `makes` says whether it is a controller that stands for a pod
+-- Why an item is left out, if it is one that is counted; `makes` says whether it is a controller that stands for a pod. A pod that is
+-- on the network of its node and finished counts for the first alone.
 abbrev pub left_out : Bool → Item → Option LeftOut
-left_out makes (item.Object (object.Pod pod)) = pod_left_out pod
-left_out makes (item.Object (object.Controller controller)) = if_counts (makes && is_on_host controller) Host
+left_out makes (item.Object (object.Pod pod)) = if pod.host_network then Some Host else if pod.finished then Some Finished else None
+left_out makes (item.Object (object.Controller controller)) = if makes && is_on_host controller then Some Host else None
 left_out makes (item.Object object.Other) = Some Skipped
 left_out makes other = None
 
@@ -40,20 +34,15 @@ count_left_out items why = count_by (is_left_out items why) (range_with_len 0 (l
 
 -- ---- pods that no peer of networks matches
 
-abbrev pub rule_lists_networks : AdminRule → Bool
-rule_lists_networks rule = list_any is_networks rule.peers
-
-abbrev pub rules_list_networks : List AdminRule → List AdminRule → Bool
-rules_list_networks ingress egress = list_any rule_lists_networks ingress || list_any rule_lists_networks egress
+-- whether some rule has a peer of networks
+abbrev pub some_lists_networks : List AdminRule → Bool
+some_lists_networks rules = list_any (λ rule. list_any is_networks rule.peers) rules
 
 -- whether some admin policy or the baseline has a peer of networks
 abbrev pub list_networks : List AdminPolicy → Option BasePolicy → Bool
-list_networks policies baseline = list_any (λ policy. rules_list_networks policy.ingress policy.egress) policies
-    || option_map_or (λ base. rules_list_networks base.ingress base.egress) baseline false
-
-abbrev pub has_no_address : Pod → Bool
-has_no_address pod = length pod.addresses == 0
+list_networks policies baseline = list_any (λ policy. some_lists_networks policy.ingress || some_lists_networks policy.egress) policies
+    || option_map_or (λ base. some_lists_networks base.ingress || some_lists_networks base.egress) baseline false
 
 -- the pods without an address, where there is a peer of networks, and none where there is not
 abbrev pub unaddressed : List Pod → List AdminPolicy → Option BasePolicy → ℕ
-unaddressed pods policies baseline = if list_networks policies baseline then count_by has_no_address pods else 0
+unaddressed pods policies baseline = if list_networks policies baseline then count_by (λ pod. length pod.addresses == 0) pods else 0

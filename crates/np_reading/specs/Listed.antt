@@ -93,23 +93,17 @@ abbrev pub rank_too : List (Rank × ⊤) → Option AdminPolicy → List (Rank �
 rank_too entries None = entries
 rank_too entries (Some admin) = with_rank entries admin
 
--- the admin policies by priority, and those of one priority by name
-abbrev pub by_rank : List Item → List (Rank × ⊤)
-by_rank items = fold with_rank [] (filter_map admin_policy_in items)
-
+-- the ranks of the admin policies, by priority and those of one priority by name
 abbrev pub ranks_of : List Item → List Rank
-ranks_of items = map (λ entry. entry.0) (by_rank items)
+ranks_of items = map (λ entry. entry.0) (fold with_rank [] (filter_map admin_policy_in items))
 
 -- the first two neighbours of one priority: the least that two have, and its two least names
 abbrev pub first_equal : List Rank → Option (Rank × Rank)
 first_equal (a ∷ b ∷ ranks) = if a.priority == b.priority then Some (a, b) else first_equal (b ∷ ranks)
 first_equal fewer = None
 
-abbrev pub equal_priority : Rank × Rank → Refusal
-equal_priority ranks = EqualPriority ranks.0.priority ranks.0.name ranks.1.name
-
 -- The rule that no two admin policies have one priority. An API server takes such policies, but leaves open which of them
 -- goes first where both match a connection (network-policy-api reference, AdminNetworkPolicySpec, `priority`): there is
 -- no one answer, so they are refused, whatever they match.
 abbrev pub have_priorities_apart : List Item → Reading ⊤
-have_priorities_apart items = refuse_found equal_priority (first_equal (ranks_of items))
+have_priorities_apart items = refuse_found (λ ranks. EqualPriority ranks.0.priority ranks.0.name ranks.1.name) (first_equal (ranks_of items))

@@ -1,11 +1,12 @@
 -- What the bytes of inputs are read as.
 use Rattle.std.specs.Prelude.{ℕ, List, Result, Ok, Err, ⊤}
+use Rattle.std.specs.Result.{result_map_both}
 use Rattle.np_reading.specs.Ends.{pods_of}
 use Rattle.np_reading.specs.LeftOut.{count_left_out, unaddressed}
 use Rattle.np_reading.specs.Listed.{admin_policies_of, baseline_of, have_priorities_apart, ingresses_of, net_policies_of, services_of}
 use Rattle.np_reading.specs.Readings.{Reading, refuse_found}
 use Rattle.np_reading.specs.Refusals.{items_refusal}
-use Rattle.np_reading.specs.Types.{Duplicate, EstateLists, Finished, Host, Item, ItemsFault, Notes, OwnerCycle, Skipped}
+use Rattle.np_reading.specs.Types.{Duplicate, EstateLists, Finished, Host, Item, Notes, OwnerCycle, Skipped}
 use Rattle.np_items.specs.Prelude.{items_of}
 use Rattle.np_json.specs.Prelude.{◌>>=◌, ◌>>◌}
 use Rattle.np_owners.specs.Prelude.{first_in_cycle, first_repeat}
@@ -30,11 +31,6 @@ estate_of_items items = record {
   baseline = baseline_of items;
 }
 
--- the items that are read, or the refusal of them
-abbrev pub or_refused : Result (List Item) ItemsFault → Reading (List Item)
-or_refused (Ok items) = Ok items
-or_refused (Err fault) = Err (items_refusal fault)
-
 -- the rule that no two items have one name
 abbrev pub have_names_apart : List Item → Reading ⊤
 have_names_apart items = refuse_found (λ numbers. Duplicate numbers.0 numbers.1) (first_repeat items)
@@ -47,7 +43,7 @@ have_no_cycle items = refuse_found OwnerCycle (first_in_cycle items)
 -- policies of one priority, else of a controller in its own chain of owners.
 unfoldable pub estate_of : List (List ℕ) → Reading EstateLists
 estate_of texts = do
-  items ← or_refused (items_of texts)
+  items ← result_map_both (λ items. items) items_refusal (items_of texts)
   have_names_apart items
   have_priorities_apart items
   have_no_cycle items

@@ -1,14 +1,15 @@
 //! What is left out of an estate, and counted.
-ghost use Rattle.std.specs.Prelude.{◌≡◌, ◌≤◌, false, length};
+ghost use Rattle.std.specs.Prelude.{◌≡◌, ◌≤◌, false, length, ◌==◌, ◌||◌};
 ghost use Rattle.std.specs.List.{list_any};
 ghost use Rattle.std.specs.Option.{option_copied, option_map_or};
 ghost use Rattle.np_reading.specs.LeftOut as spec;
 ghost use Rattle.np_owners.specs.MadePods as made_pods;
+ghost use Rattle.np_model.specs.Prelude.{is_networks};
 
 use crate::context::is_on_host;
 use np_items::Item;
 use np_model::{AdminPeer, AdminPolicy, AdminRule, BasePolicy, Pod};
-use np_objects::{Object, PodItem};
+use np_objects::Object;
 
 /// Why an item is left out.
 #[derive(Clone, Copy, PartialEq, Eq)]
@@ -52,25 +53,14 @@ fn left_out(makes: bool, item: &Item) -> Option<LeftOut>
     ensures { result ≡ spec.left_out makes item.now }
 {
     match item {
-        Item::Object(Object::Pod(pod)) => pod_left_out(pod),
+        // One on the network of its node counts as that alone.
+        Item::Object(Object::Pod(pod)) if pod.host_network => Some(LeftOut::Host),
+        Item::Object(Object::Pod(pod)) if pod.finished => Some(LeftOut::Finished),
         Item::Object(Object::Controller(controller)) if makes && is_on_host(controller) => {
             Some(LeftOut::Host)
         }
         Item::Object(Object::Other) => Some(LeftOut::Skipped),
         _ => None,
-    }
-}
-
-// Why a pod is left out. One on the network of its node counts as that alone.
-fn pod_left_out(pod: &PodItem) -> Option<LeftOut>
-    ensures { result ≡ spec.pod_left_out pod.now }
-{
-    if pod.host_network {
-        Some(LeftOut::Host)
-    } else if pod.finished {
-        Some(LeftOut::Finished)
-    } else {
-        None
     }
 }
 
@@ -91,7 +81,7 @@ pub(crate) fn unaddressed(
 
 // Whether a pod has no address.
 fn has_no_address(pod: &Pod) -> bool
-    ensures { result ≡ spec.has_no_address pod.now }
+    ensures { result ≡ (length pod.now.addresses == 0) }
 {
     pod.addresses.items().is_empty()
 }
@@ -105,14 +95,14 @@ fn list_networks(policies: &[AdminPolicy], baseline: Option<&BasePolicy>) -> boo
 
 // Whether some admin policy has a peer of networks.
 fn admins_list_networks(policies: &[AdminPolicy]) -> bool
-    ensures { result ≡ list_any (λ policy. spec.rules_list_networks policy.ingress policy.egress) policies.now }
+    ensures { result ≡ list_any (λ policy. spec.some_lists_networks policy.ingress || spec.some_lists_networks policy.egress) policies.now }
 {
     policies.iter().any(|policy| rules_list_networks(policy.ingress.items(), policy.egress.items()))
 }
 
 // Whether the baseline has a peer of networks.
 fn base_lists_networks(baseline: Option<&BasePolicy>) -> bool
-    ensures { result ≡ option_map_or (λ base. spec.rules_list_networks base.ingress base.egress)
+    ensures { result ≡ option_map_or (λ base. spec.some_lists_networks base.ingress || spec.some_lists_networks base.egress)
         (option_copied baseline.entry) false }
 {
     match baseline {
@@ -123,21 +113,21 @@ fn base_lists_networks(baseline: Option<&BasePolicy>) -> bool
 
 // Whether some rule of either direction has a peer of networks.
 fn rules_list_networks(ingress: &[AdminRule], egress: &[AdminRule]) -> bool
-    ensures { result ≡ spec.rules_list_networks ingress.now egress.now }
+    ensures { result ≡ spec.some_lists_networks ingress.now || spec.some_lists_networks egress.now }
 {
     some_lists_networks(ingress) || some_lists_networks(egress)
 }
 
 // Whether some rule has a peer of networks.
 fn some_lists_networks(rules: &[AdminRule]) -> bool
-    ensures { result ≡ list_any spec.rule_lists_networks rules.now }
+    ensures { result ≡ spec.some_lists_networks rules.now }
 {
     rules.iter().any(|rule| lists_networks(rule))
 }
 
 // Whether a rule has a peer of networks.
 fn lists_networks(rule: &AdminRule) -> bool
-    ensures { result ≡ spec.rule_lists_networks rule.now }
+    ensures { result ≡ list_any is_networks rule.now.peers }
 {
     rule.peers
         .items()

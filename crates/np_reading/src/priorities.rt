@@ -1,8 +1,9 @@
 //! Admin policies of one priority.
-ghost use Rattle.std.specs.Prelude.{◌≡◌, IfOk, OnOk};
+ghost use Rattle.std.specs.Prelude.{◌≡◌, IfOk, OnOk, fold, []};
 ghost use Rattle.std.specs.Option.{option_copied};
 ghost use Rattle.np_reading.specs.Listed as spec;
 ghost use Rattle.np_reading.specs.Readings.{Gives, refuse_found};
+ghost use Rattle.std.specs.List.{filter_map};
 
 use crate::refusal::Refusal;
 use np_base::{NoMemory, Text};
@@ -29,7 +30,7 @@ pub(crate) fn refuse_equal_priorities(alloc: Global, items: &[Item]) -> Result<(
 
 // Refuses the first two neighbours of one priority.
 fn refuse_equal_neighbours(ranks: &[Rank]) -> Result<(), Refusal>
-    ensures { Gives result (refuse_found spec.equal_priority (spec.first_equal ranks.now)) }
+    ensures { Gives result (refuse_found (λ ranks. Refusal.EqualPriority ranks.0.priority ranks.0.name ranks.1.name) (spec.first_equal ranks.now)) }
 {
     for place in 1..ranks.len() {
         let before = &ranks[place - 1];
@@ -55,7 +56,7 @@ fn ranks_of(alloc: Global, items: &[Item]) -> Result<Vec<Rank>, NoMemory>
 
 // The ranks of the admin policies, each in its place.
 fn by_rank(alloc: Global, items: &[Item]) -> Result<BTreeMap<Rank, ()>, NoMemory>
-    ensures { IfOk result (λ made. made.entries ≡ spec.by_rank items.now) }
+    ensures { IfOk result (λ made. made.entries ≡ fold spec.with_rank [] (filter_map spec.admin_policy_in items.now)) }
 {
     let mut ranks = BTreeMap::new(alloc);
     for item in items {
