@@ -57,7 +57,6 @@ WEIGHED = "what the rules ask for is gathered for each workload, to see whether 
 PATTERNS = "the rules are gone through for each pattern of the labels"
 SETS_OF_PATTERNS = "each pattern of the labels has a set of thousands of ports"
 ADDRESSES = "the rules are asked about all addresses for each workload, although these are of one kind"
-ADDRESSES_AGAIN = "the rules of each workload are asked about all addresses for each statement anew"
 KNOWN = {(name, command): why for name, commands, why in (
     ("longNames", "list", LONG_ANSWER),
     ("samePorts", "list", LONG_ANSWER),
@@ -68,14 +67,14 @@ KNOWN = {(name, command): why for name, commands, why in (
      "the JSON and the policies are held whole, at 50 bytes of memory for each byte"),
     ("groupKeys", "list", PAIRS),
     ("groupKeys", "flatten", "each policy names all groups, and each group by all keys"),
-    ("adminRules", "list exposure unused check flatten", RULES_OF_PAIRS),
-    ("adminPortRules", "list exposure check flatten", RULES_OF_PAIRS),
-    ("podRules", "list exposure unused check flatten", RULES_OF_PAIRS),
+    ("adminRules", "exposure unused flatten", RULES_OF_PAIRS),
+    ("adminPortRules", "exposure flatten", RULES_OF_PAIRS),
+    ("podRules", "exposure unused flatten", RULES_OF_PAIRS),
     ("strangerRules", "unused", "each rule is made a set of addresses for each workload, also where it has none"),
     ("manyLines", "check", "every two workloads are looked at for each statement"),
     ("pairPorts", "check flatten", PORTS_OF_PAIRS),
-    ("portNames", "list exposure unused check flatten", PORTS_OF_PAIRS),
-    ("namedPortRules", "list explain exposure unused check", PORTS_OF_RULES),
+    ("portNames", "exposure unused flatten", PORTS_OF_PAIRS),
+    ("namedPortRules", "explain exposure unused", PORTS_OF_RULES),
     ("blocksAndPorts", "list unused check flatten", PORTS_OF_BLOCKS),
     ("exposureStrangers", "exposure", WEIGHED),
     ("exposureKeys", "exposure", PATTERNS),
@@ -83,7 +82,6 @@ KNOWN = {(name, command): why for name, commands, why in (
     ("exposureNamespaces", "exposure", PATTERNS),
     ("exposureKeyPorts", "exposure", SETS_OF_PATTERNS),
     ("blockRules", "check", ADDRESSES),
-    ("blockStatements", "check", ADDRESSES_AGAIN),
 ) for command in commands.split()}
 
 
