@@ -35,6 +35,8 @@ _BROWSERS = {
 
 # Cases that run the program and are about what np.wasm has not; the first of them no browser has.
 _BOUND_ON_FILES = "a-cut-report-is-its-beginning"
+# It has a `node` of its own on the path, which np-wasm would take for Node, without end.
+_ANOTHER_NODE = "np-on-another-system"
 _NOT_HERE = {
     "case-that-needs-a-command": "./test itself",
     "fault-out-of-memory": "a bound of the system on memory",
@@ -183,7 +185,7 @@ def cases(runtime: str) -> List[str]:
     for folder in sorted((TOP / "cases").iterdir()):
         script = folder / "run"
         runs_np = not script.exists() or "$NP" in script.read_text(encoding="utf-8")
-        is_here = folder.name not in _NOT_HERE and (runtime == "node" or folder.name != _BOUND_ON_FILES)
+        is_here = folder.name not in _NOT_HERE and folder.name != (_ANOTHER_NODE if runtime == "node" else _BOUND_ON_FILES)
         if (folder / "words").exists() and runs_np and is_here:
             found.append(folder.name)
     return found
