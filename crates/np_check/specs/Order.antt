@@ -1,6 +1,7 @@
 -- The order of packets by their ends, families, protocols and ports.
 use Rattle.std.specs.Prelude.{Bool, true, false, nat_lt}
-use Rattle.np_check.specs.Types.{Address, At, Family, PlaceEnd, Proto, Sctp, Tcp, Udp, Work}
+use Rattle.np_check.specs.Types.{Address, At, Family, PlaceEnd, Proto, Work}
+use Rattle.np_conns.specs.Prelude.{proto_number}
 use Rattle.np_addr.specs.declared.address.Address.TheVariants as address
 use Rattle.np_addr.specs.declared.address.Family.TheVariants as family
 
@@ -25,7 +26,4 @@ family_before one other = false
 
 -- TCP, UDP, SCTP
 abbrev pub proto_before : Proto → Proto → Bool
-proto_before Tcp Udp = true
-proto_before Tcp Sctp = true
-proto_before Udp Sctp = true
-proto_before one other = false
+proto_before one other = nat_lt (proto_number one) (proto_number other)

@@ -75,7 +75,7 @@ fault-is : (run : Run) (outcome : Result Ending Failure) (texts : List (List ℕ
 fault-is run outcome texts job fault cause tells is refused =
     let why : Cause run (Err (Refused fault)) = subst (Cause run) refused cause in
     let left = Leaves-caused run (Err (Refused fault)) why in
-    subst (λ (j : Job). HaveFault j texts fault) (one_job run.asked job left.job is left.asked) (left.found texts tells)
+    subst (λ (j : Job). HaveFault j texts fault) (one_job run.asked job left.inputs.job is left.inputs.asked) (left.found texts tells)
 
 pub unfailed : (count : ℕ) → (0 < count → false ≡ true) → count ≡ 0
 unfailed zero fails = refl

@@ -71,7 +71,7 @@ none-left (x ∷ front) rest parts = cc
 
 -- of nothing, nothing was taken
 took-none : (old new : Option (List ℕ)) → TookLess old new [] → new ≡ old
-took-none old new less = less.taken ∙ ap (append_known old) (none-left less.front less.rest less.parts) ∙ append_known-nil old
+took-none old new less = less.took.taken ∙ ap (append_known old) (none-left less.took.front less.took.rest less.took.parts) ∙ append_known-nil old
 
 -- what want of memory may leave of told bytes
 abbrev LeftLess : Run → List (List ℕ) → Type 0
@@ -163,28 +163,20 @@ notes-told (Sample n) texts lists ends ended read = noted-sample n lists ends
 -- where a run has its cause, it leaves what it is to leave
 pub Leaves-caused : (run : Run) (outcome : Result Ending Failure) → Cause run outcome → Leaves run outcome
 Leaves-caused run (Ok ends) cause = record {
-  job = cause.job;
-  asked = cause.asked;
-  read = cause.read;
+  inputs = record { job = cause.job; asked = cause.asked; read = cause.read; fits = λ texts told. (cause.told texts told).accepted.fits };
   unfailed = cause.unfailed;
-  fits = λ texts told. (cause.told texts told).accepted.fits;
   notes = λ texts lists told read. notes-told cause.job texts lists ends (cause.told texts told).ended read;
 }
 Leaves-caused run (Err Usage) cause = cause
 Leaves-caused run (Err TooLarge) cause = cause
 Leaves-caused run (Err (Refused fault)) cause = record {
-  job = cause.job;
-  asked = cause.asked;
-  read = cause.read;
+  inputs = record { job = cause.job; asked = cause.asked; read = cause.read; fits = cause.fits };
   kept = cause.kept;
-  fits = cause.fits;
   found = λ texts told. have-fault cause.job texts fault (cause.found texts told);
 }
 Leaves-caused run (Err (CannotRead name)) cause = cause
 Leaves-caused run (Err CannotWrite) cause = record {
-  job = cause.job;
-  asked = cause.asked;
-  read = cause.read;
+  inputs = record { job = cause.job; asked = cause.asked; read = cause.read; fits = λ texts told. (cause.accepted texts told).fits };
   rose = cause.rose;
   front = λ texts told.
       let accepted = cause.accepted texts told in

@@ -73,7 +73,7 @@ refuses_too_large run err answer (Err NoMemory) cause said answered = λ job tex
 pub refuses_more : (run : Run) (err : SinkTrace) (answer : Status) (outcome : Result Ending Failure) → Cause run outcome → Said err (message outcome) → answer ≡ status_of outcome →
     RefusesMore run err answer
 refuses_more run err answer (Ok ends) cause said answered = λ more. absurd (omega (arith, more, cause.read.in_room))
-refuses_more run err answer (Err Usage) cause said answered = λ more. absurd (omega (arith, more, cause.source.handed))
+refuses_more run err answer (Err Usage) cause said answered = λ more. absurd (omega (arith, more, cause.handed))
 refuses_more run err answer (Err TooLarge) cause said answered = λ more. inl (answered, cause.kept, said)
 refuses_more run err answer (Err (Refused fault)) cause said answered = λ more. absurd (omega (arith, more, cause.read.in_room))
 refuses_more run err answer (Err (CannotRead name)) cause said answered = λ more. absurd (omega (arith, more, cause.at.in_room))

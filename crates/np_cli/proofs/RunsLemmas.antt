@@ -1,12 +1,12 @@
 -- Why a run ends as it does. For `np_main`, `run_job` and `run`.
-use Rattle.std.proofs.Common.{◌≡◌, ℕ, ◌≤◌, List, [], ◌∷◌, ◌++◌, Option, Some, None, false, refl, sym, ap, subst, ◌∙◌, append_assoc, append-nil, Result, Ok, Err, inl, inr}
+use Rattle.std.proofs.Common.{◌≡◌, ℕ, ◌≤◌, List, [], ◌∷◌, ◌++◌, Option, Some, None, false, refl, sym, ap, subst, ◌∙◌, append_assoc, append-nil, Result, Ok, Err, inl, inr, sum_by, length}
 use Rattle.std.specs.Prelude.{◌⊎◌, IsErrAnd}
 use Rattle.std.proofs.lemmas.Bool.{le-ltb}
 use Rattle.np_io.specs.Prelude.{TookFront, TookLess}
 use Rattle.np_frame.proofs.SourcesLemmas.{BeganNext-none}
 use Rattle.np_cli.specs.Prelude.{Answers, AskedNothing, CannotRead, CannotWrite, Cause, Ending, Failure, Fault, IsAccepted, IsReported, Job, NoMemory, Refused, Run, TooLarge, Usage, ending_of, output, printed_text, ran, refusal, reply_in}
 use Rattle.np_command.specs.Prelude.{IsKept, SinkTrace, TookWhole, fault_in, text_in, words_failure}
-use Rattle.np_frame.specs.Prelude.{AreTold, BeganFront, FailedAt, IsUntouched, NamesSomething, OverLimit, ReadOnce, SourceTrace, Unread, input_names, is_too_large, names_asked, objects_of, source_failure, total_size}
+use Rattle.np_frame.specs.Prelude.{AreTold, BeganFront, FailedAt, IsUntouched, NamesSomething, OverLimit, ReadOnce, SourceTrace, Unread, input_names, is_too_large, names_asked, objects_of, source_failure}
 use Rattle.np_frame.specs.declared.sources.TheConstants.{SIZE_LIMIT}
 use Rattle.np_frame.specs.declared.sources.SourceFault.{SourceFault}
 use Rattle.np_frame.specs.declared.sources.SourceFault.TheVariants as unread
@@ -49,8 +49,8 @@ pub output-fits : (job : Job) (texts : List (List ℕ)) → is_too_large texts �
 unfolding output
 output-fits job texts fits = rw fits refl
 
-fits_limit : (texts : List (List ℕ)) → total_size texts ≤ SIZE_LIMIT → is_too_large texts ≡ false
-fits_limit texts fits = le-ltb SIZE_LIMIT (total_size texts) fits
+fits_limit : (texts : List (List ℕ)) → sum_by length texts ≤ SIZE_LIMIT → is_too_large texts ≡ false
+fits_limit texts fits = le-ltb SIZE_LIMIT (sum_by length texts) fits
 
 fault-is : (job : Job) (texts : List (List ℕ)) (reply : Result (List ℕ) Fault) → reply_in job texts (objects_of job texts) ≡ reply → refusal job texts ≡ fault_in reply
 unfolding refusal
@@ -61,7 +61,7 @@ unfolding printed_text
 text-is job texts reply fits is = output-fits job texts fits ∙ ap text_in is
 
 pub Cause-from_answers : (job : Job) (source : SourceTrace) (out : SinkTrace) (texts : List (List ℕ)) (outcome : Result Ending Failure) →
-    ((told : List (List ℕ)) → AreTold source.holds source.left (input_names job) told → texts ≡ told) → total_size texts ≤ SIZE_LIMIT → ReadOnce source (input_names job) → Answers job texts out outcome →
+    ((told : List (List ℕ)) → AreTold source.holds source.left (input_names job) told → texts ≡ told) → sum_by length texts ≤ SIZE_LIMIT → ReadOnce source (input_names job) → Answers job texts out outcome →
     Cause (ran (Some job) source out) outcome
 unfolding ending_of
 Cause-from_answers job source out texts (Ok ends) read size once answers =
@@ -109,7 +109,13 @@ Cause-from_answers job source out texts (Err (CannotRead name)) read size once a
 -- the words ask for nothing, or want memory
 pub Cause-words : (asked : Option Job) (source : SourceTrace) (out : SinkTrace) (fault : WordsFault) → (fault ≡ words.Usage → asked ≡ None) → IsUntouched source → IsKept out →
     Cause (ran asked source out) (Err (words_failure fault))
-Cause-words asked source out words.Usage nothing untouched kept = record { asked = nothing refl; source = untouched; kept = kept }
+Cause-words asked source out words.Usage nothing untouched kept = record {
+  asked = nothing refl;
+  faults = untouched.faults;
+  handed = untouched.handed;
+  began = untouched.began;
+  kept = kept;
+}
 Cause-words asked source out words.NoMemory nothing untouched kept = record {
   began = BeganFront-none source (names_asked asked) untouched;
   less = λ texts told. TookLess-kept out (output asked texts) kept;
@@ -137,7 +143,7 @@ Cause-asked job source out outcome cause usage =
 -- the inputs that a run began are the first of its names
 pub Cause-began : (run : Run) (outcome : Result Ending Failure) → Cause run outcome → BeganFront run.source (names_asked run.asked)
 Cause-began run (Ok ends) cause = subst (BeganFront run.source) (sym (ap names_asked cause.asked)) (BeganFront-all run.source (input_names cause.job) cause.read)
-Cause-began run (Err Usage) cause = BeganFront-none run.source (names_asked run.asked) cause.source
+Cause-began run (Err Usage) cause = BeganFront-none run.source (names_asked run.asked) (record { faults = cause.faults; handed = cause.handed; began = cause.began })
 Cause-began run (Err TooLarge) cause = BeganFront-over run.source (names_asked run.asked) cause.over
 Cause-began run (Err (Refused fault)) cause = subst (BeganFront run.source) (sym (ap names_asked cause.asked)) (BeganFront-all run.source (input_names cause.job) cause.read)
 Cause-began run (Err (CannotRead name)) cause = BeganFront-failed run.source (names_asked run.asked) name cause.at

@@ -10,21 +10,17 @@ use Rattle.np_cli.specs.Outcomes.{HaveFault, Says}
 use Rattle.np_cli.specs.Statuses.{ending_status, status_of}
 use Rattle.np_cli.specs.Types.{Ending, Failure, Fault, Job, Refused, TooLarge, Usage}
 use Rattle.np_cli.specs.declared.in_memory.Answered.{Answered}
+use Rattle.std.specs.Option.{option_map_or}
 
 -- the bytes of what the words ask for, in order
 abbrev pub texts_held : List Held → Option Job → List (List ℕ)
 texts_held files asked = map (bytes_of files) (names_asked asked)
 
--- a fault ends a run, or else its report does
-abbrev pub fault_or : Option Fault → Ending → Result Ending Failure
-fault_or (Some fault) ends = Err (Refused fault)
-fault_or None ends = Ok ends
-
 -- How a run on these bytes ends, where memory suffices: words that ask for nothing, too many bytes and the first fault end it, in this
 -- order, and else its report does.
 abbrev pub outcome_on : Option Job → List (List ℕ) → Result Ending Failure
 outcome_on None texts = Err Usage
-outcome_on (Some job) texts = if is_too_large texts then Err TooLarge else fault_or (refusal job texts) (ending_of job texts)
+outcome_on (Some job) texts = if is_too_large texts then Err TooLarge else option_map_or (λ fault. Err (Refused fault)) (refusal job texts) (Ok (ending_of job texts))
 
 -- what is answered then: there is no report but that of a run that ends with it
 abbrev pub answer_to : Option Job → List (List ℕ) → Answered

@@ -67,31 +67,30 @@ pub record IsReportOn (job : Job) (texts : List (List ℕ)) (out : SinkTrace) (t
 
 -- ---- outcomes
 
--- All inputs were read, and the report was written whole.
-pub record Reported (run : Run) (ends : Ending) : Type 0 where
+-- All inputs of the job that the words ask for were read, and they are not too large.
+pub record ReadAll (run : Run) : Type 0 where
   pub job : Job
   pub asked : run.asked ≡ Some job
   pub read : ReadOnce run.source (input_names job)
-  pub unfailed : run.out.faults_after ≡ run.out.faults_before
   pub fits : (texts : List (List ℕ)) → KnowsBytes run texts → is_too_large texts ≡ false
-  pub notes : (texts : List (List ℕ)) (lists : EstateLists) → KnowsBytes run texts → lists_of (inputs_of job texts) ≡ Ok lists → NotesLeftOut job lists ends
+
+-- All inputs were read, and the report was written whole.
+pub record Reported (run : Run) (ends : Ending) : Type 0 where
+  pub inputs : ReadAll run
+  pub unfailed : run.out.faults_after ≡ run.out.faults_before
+  pub notes : (texts : List (List ℕ)) (lists : EstateLists) → KnowsBytes run texts → lists_of (inputs_of inputs.job texts) ≡ Ok lists → NotesLeftOut inputs.job lists ends
 
 -- All inputs were read, and have this fault. Nothing was written.
 pub record RefusedFor (run : Run) (fault : Fault) : Type 0 where
-  pub job : Job
-  pub asked : run.asked ≡ Some job
-  pub read : ReadOnce run.source (input_names job)
+  pub inputs : ReadAll run
   pub kept : IsKept run.out
-  pub fits : (texts : List (List ℕ)) → KnowsBytes run texts → is_too_large texts ≡ false
-  pub found : (texts : List (List ℕ)) → KnowsBytes run texts → HaveFault job texts fault
+  pub found : (texts : List (List ℕ)) → KnowsBytes run texts → HaveFault inputs.job texts fault
 
 -- All inputs were read, and a call on the sink of the report failed: it took a front of a report on them.
 pub record StoppedWriting (run : Run) : Type 0 where
-  pub job : Job
-  pub asked : run.asked ≡ Some job
-  pub read : ReadOnce run.source (input_names job)
+  pub inputs : ReadAll run
   pub rose : Rose run.out.faults_before run.out.faults_after
-  pub front : (texts : List (List ℕ)) → KnowsBytes run texts → (text : List ℕ) × IsReportOn job texts run.out text × TookFront run.out.before run.out.after text
+  pub front : (texts : List (List ℕ)) → KnowsBytes run texts → (text : List ℕ) × IsReportOn inputs.job texts run.out text × TookFront run.out.before run.out.after text
 
 -- Memory was refused. No field says that it was: this holds of every run that began the first of its inputs in their order, and of
 -- which the sink took nothing, or less than all of a report, unless that is empty.

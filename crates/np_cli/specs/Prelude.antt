@@ -5,9 +5,9 @@ pub use Rattle.np_cli.specs.Bytes.{AcknowledgesReport, Bytes, Completes, Refuses
 pub use Rattle.np_cli.specs.Causes.{Cause, EndsExactly, IsAccepted, IsReported, LackedExactly, RefusedExactly, ReportedExactly, StoppedExactly}
 pub use Rattle.np_cli.specs.Counts.{Counted, RoseAtMost, steps_in}
 unfoldable pub use Rattle.np_cli.specs.Counts.{most_steps, reply_steps}
-pub use Rattle.np_cli.specs.InMemory.{SaysOfTexts, answer_to, fault_or, holding, outcome_on, texts_held}
+pub use Rattle.np_cli.specs.InMemory.{SaysOfTexts, answer_to, holding, outcome_on, texts_held}
 pub use Rattle.np_cli.specs.Messages.{ending_text, message}
-pub use Rattle.np_cli.specs.Outcomes.{Concludes, HaveFault, IsReportOn, LackedMemory, Leaves, NotesLeftOut, RefusedFor, RefusesFor, Reported, Says, StoppedWriting, taking}
+pub use Rattle.np_cli.specs.Outcomes.{Concludes, HaveFault, IsReportOn, LackedMemory, Leaves, NotesLeftOut, ReadAll, RefusedFor, RefusesFor, Reported, Says, StoppedWriting, taking}
 pub use Rattle.np_cli.specs.Prints.{Answers}
 pub use Rattle.np_cli.specs.Promises.{BlamesDevice, BlamesWords, IsStill, NoInputFailed, Promises, RefusesMore, RefusesTooLarge, SaysOfInputs}
 pub use Rattle.np_cli.specs.Runs.{AskedNothing, KnowsBytes, ReadTooMuch, Run, StoppedReading, ran}

@@ -1,6 +1,6 @@
 -- A run of the top call, and what holds of runs that end before their inputs are read.
 use Rattle.std.specs.Prelude.{◌≡◌, ℕ, List, Option, None, is_some, true}
-use Rattle.np_frame.specs.Prelude.{AreTold, FailedAt, IsUntouched, OverLimit, SourceTrace, names_asked}
+use Rattle.np_frame.specs.Prelude.{AreTold, FailedAt, OverLimit, SourceTrace, names_asked}
 use Rattle.np_command.specs.Prelude.{IsKept, SinkTrace}
 use Rattle.np_cli.specs.Types.{Job}
 
@@ -20,7 +20,9 @@ KnowsBytes run texts = AreTold run.source.holds run.source.left (names_asked run
 -- The words ask for nothing, and nothing was touched.
 pub record AskedNothing (run : Run) : Type 0 where
   pub asked : run.asked ≡ None
-  pub source : IsUntouched run.source
+  pub faults : run.source.faults_after ≡ run.source.faults_before
+  pub handed : run.source.handed_after ≡ run.source.handed_before
+  pub began : run.source.began_after ≡ run.source.began_before
   pub kept : IsKept run.out
 
 -- The inputs were not read to their ends, since they are too large.

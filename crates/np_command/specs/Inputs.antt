@@ -1,6 +1,7 @@
 -- What the inputs say, or why they are refused.
 use Rattle.std.specs.Prelude.{◌≡◌, ℕ, List, Result, Ok, Err, if◌then◌else◌, nat_le}
-use Rattle.np_reading.specs.Prelude.{Reading, estate_of}
+use Rattle.std.specs.Result.{result_flatten, result_map_both}
+use Rattle.np_reading.specs.Prelude.{estate_of}
 use Rattle.np_command.specs.Types.{CannotRead, CannotWrite, EstateLists, Failure, Fault, Inputs, NoMemory, Refused, TooLarge, TooManyWorkloads, Usage}
 use Rattle.np_fold.specs.Prelude.{workload_count}
 use Rattle.np_fold.specs.declared.workloads.TheConstants.{MOST_WORKLOADS}
@@ -9,14 +10,9 @@ use Rattle.np_fold.specs.declared.workloads.TheConstants.{MOST_WORKLOADS}
 unfoldable pub small_estate : EstateLists → Result EstateLists Fault
 small_estate lists = if nat_le (workload_count lists) MOST_WORKLOADS then Ok lists else Err (TooManyWorkloads (workload_count lists))
 
--- the estate that is read, unless it has too many workloads or there is none
-abbrev pub small_reading : Reading EstateLists → Result EstateLists Fault
-small_reading (Ok lists) = small_estate lists
-small_reading (Err refusal) = Err (Inputs refusal)
-
 -- what all inputs say together, or the first fault
 abbrev pub lists_of : List (List ℕ) → Result EstateLists Fault
-lists_of texts = small_reading (estate_of texts)
+lists_of texts = result_flatten (result_map_both small_estate Inputs (estate_of texts))
 
 -- A refusal is for the fault that there is. Memory may be refused at any time.
 abbrev pub Refuses : {X : Type 0} → Failure → Result X Fault → Type 0

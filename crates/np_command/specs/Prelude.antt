@@ -1,7 +1,7 @@
 -- The definitions and types of this crate that its proofs and the crates above speak of, one import line a file.
-pub use Rattle.np_command.specs.Ends.{end_text, family_asked, only_family, or_unknown}
+pub use Rattle.np_command.specs.Ends.{end_text, or_unknown}
 pub use Rattle.np_command.specs.Failures.{fold_failure, refusal_failure, words_failure, write_failure}
-pub use Rattle.np_command.specs.Inputs.{Gives, Refuses, lists_of, small_reading}
+pub use Rattle.np_command.specs.Inputs.{Gives, Refuses, lists_of}
 unfoldable pub use Rattle.np_command.specs.Inputs.{small_estate}
 pub use Rattle.np_command.specs.Messages.{fault_text}
 pub use Rattle.np_command.specs.Prints.{Wrote, WroteAll, WroteFront, fault_in, text_in, without_value}

@@ -7,12 +7,10 @@ ghost use Rattle.np_kinds.specs.Prelude.{IsWorkload};
 
 use crate::failure::Failure;
 use crate::fault::Fault;
-use np_addr::{Family, family_of, print_address};
+use np_addr::print_address;
 use np_args::EndWord;
 use np_base::{NoMemory, Text};
 use np_fold::Folded;
-use np_model::Estate;
-use np_rules::End;
 use std::alloc::Global;
 
 /// The workload of a name. `UnknownEnd` comes exactly where no workload has it.
@@ -34,19 +32,5 @@ pub fn end_text(alloc: Global, word: &EndWord) -> Result<Text, NoMemory>
     match word {
         EndWord::At(address) => print_address(alloc, *address),
         EndWord::Named(name) => name.copy(),
-    }
-}
-
-/// The one family in which packets between two ends are asked about: that of their address, the source's where both ends are
-/// addresses, and else that of the list. `None` where the list has both.
-pub fn family_asked(estate: &Estate, source: End, destination: End) -> Option<Family>
-    ensures { result ≡ spec.family_asked estate.now source destination }
-{
-    match (source, destination) {
-        (End::At(address), _) | (End::Pod(_), End::At(address)) => Some(family_of(address)),
-        (End::Pod(_), End::Pod(_)) => match estate.families() {
-            [one] => Some(*one),
-            _ => None,
-        },
     }
 }

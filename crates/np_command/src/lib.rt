@@ -7,7 +7,7 @@ mod fault;
 mod status;
 mod write_fault;
 
-pub use ends::{end_text, family_asked, workload_of};
+pub use ends::{end_text, workload_of};
 pub use failure::Failure;
 pub use fault::Fault;
 pub use status::Status;

@@ -1,17 +1,18 @@
 -- `evaluate`: the verdict of one packet.
-use Rattle.std.specs.Prelude.{ℕ, List, ◌++◌, ◌&&◌, Bool, true, false, codes, Option, Some, None, Result, Ok, Err, ⊤, if◌then◌else◌}
+use Rattle.std.specs.Prelude.{ℕ, List, ◌++◌, ◌&&◌, Bool, codes, Option, Some, None, Result, Ok, Err, ⊤, if◌then◌else◌}
+use mathlib.Core.Bool.{beq}
 use Rattle.std.specs.List.{position}
 use Rattle.std.specs.Option.{option_map}
 use Rattle.std.specs.Str.{bytes_eq}
 use Rattle.np_addr.specs.declared.address.Family.{Family}
 use Rattle.np_addr.specs.declared.address.Family.TheVariants.{Four, Six}
-use Rattle.np_command.specs.Prelude.{end_text, family_asked, or_unknown}
+use Rattle.np_command.specs.Prelude.{end_text, or_unknown}
 use Rattle.np_command_evaluate.specs.Types.{End, EndWord, EstateLists, Fault, Pod, PortSpot, SameEnd}
 use Rattle.np_report.specs.Prelude.{family_suffix}
-use Rattle.np_rules.specs.Prelude.{allows, packet_of, said_text}
+use Rattle.np_rules.specs.Prelude.{said_text}
 use Rattle.np_rules.specs.declared.packet.End.TheVariants as end
 use Rattle.np_args.specs.declared.end_word.EndWord.TheVariants as word
-use Rattle.np_explain.specs.Prelude.{are_one_pod}
+use Rattle.np_explain.specs.Prelude.{are_one_pod, family_asked, passes_between}
 
 -- ---- ends
 
@@ -43,25 +44,15 @@ unfoldable pub verdict_line : List ℕ → List ℕ → PortSpot → Option Fami
 verdict_line from to spot mark verdict =
     from ++ codes " => " ++ to ++ family_suffix mark ++ codes " : " ++ said_text spot verdict ++ codes "\n"
 
--- one line where the verdicts of both families are the same, and else one for each, with the family's mark
-abbrev pub lines_of_both : (Option Family → Bool → List ℕ) → Bool → Bool → List ℕ
-lines_of_both line true true = line None true
-lines_of_both line false false = line None false
-lines_of_both line four six = line (Some Four) four ++ line (Some Six) six
-
--- one line where one family is asked about
+-- One line where one family is asked about, or the verdicts of both are the same, and else one for each, with the family's mark.
 abbrev pub lines_in : (Option Family → Bool → List ℕ) → Option Family → (Family → Bool) → List ℕ
 lines_in line (Some one) verdict = line None (verdict one)
-lines_in line None verdict = lines_of_both line (verdict Four) (verdict Six)
-
--- whether the packet of a family is allowed
-abbrev pub is_allowed : EstateLists → End → End → PortSpot → Family → Bool
-is_allowed lists source destination spot family =
-    allows lists (packet_of lists (record { source = source; destination = destination; family = family; proto = spot.proto; port = spot.port }))
+lines_in line None verdict = if beq (verdict Four) (verdict Six) then line None (verdict Four)
+    else line (Some Four) (verdict Four) ++ line (Some Six) (verdict Six)
 
 unfoldable pub verdict_lines : EstateLists → List ℕ → List ℕ → PortSpot → End → End → List ℕ
 verdict_lines lists from to spot source destination =
-    lines_in (verdict_line from to spot) (family_asked lists source destination) (is_allowed lists source destination spot)
+    lines_in (verdict_line from to spot) (family_asked lists source destination) (λ family. passes_between lists source destination family spot)
 
 -- ---- all of it
 

@@ -3,15 +3,16 @@ ghost use Rattle.std.specs.Prelude.{◌≡◌, ◌<◌, ◌^◌, ◌++◌, IfOk,
 ghost use Rattle.std.specs.List.{position};
 ghost use Rattle.std.specs.Str.{bytes_eq};
 ghost use Rattle.np_command.specs.Prelude.{Gives, Wrote, sunk};
-ghost use Rattle.np_explain.specs.Prelude.{are_one_pod};
+ghost use Rattle.np_explain.specs.Prelude.{are_one_pod, passes_between};
 ghost use Rattle.np_command_evaluate.specs.Report as spec;
 ghost use Rattle.np_rules.specs.Prelude.{IsEndOf};
 
 use np_addr::Family;
 use np_args::EndWord;
 use np_base::{NoMemory, Text};
-use np_command::{Failure, Fault, end_text, family_asked};
+use np_command::{Failure, Fault, end_text};
 use np_conns::PortSpot;
+use np_explain::family_asked;
 use np_fold::Folded;
 use np_io::{Sink, write_whole};
 use np_model::{Estate, Pod};
@@ -186,7 +187,7 @@ fn is_allowed(estate: &Estate, asked: &AskedPacket, family: Family) -> bool
     requires source { IsEndOf estate.now asked.now.source }
     requires destination { IsEndOf estate.now asked.now.destination }
     ensures { result
-        ≡ spec.is_allowed estate.now asked.now.source asked.now.destination asked.now.spot family }
+        ≡ passes_between estate.now asked.now.source asked.now.destination family asked.now.spot }
 {
     let packet = Packet {
         source: asked.source,

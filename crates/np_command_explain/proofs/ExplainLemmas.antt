@@ -6,14 +6,14 @@ use Rattle.std.proofs.lemmas.Cmp.{nat_cmp_total}
 use Rattle.std.specs.Cmp.{tied_itself}
 use Rattle.std.specs.Ordering.{nat_cmp}
 use Rattle.np_base.proofs.Lists.{Contains-one}
-use Rattle.np_command_explain.specs.Prelude.{Address, AreEnds, AreNamed, AskedEnd, At, End, EndWord, EstateLists, ExplainedEnds, Explains, Explanation, Family, Fault, Four, HasPods, HaveBothFamilies, IsAsked, IsFamilyBetween, IsRightIn, SameEnd, Six, Work, are_one, asked_end, destination_end, ends_between, explanations, in_families, one_for_all, one_for_each, shown_of_both, source_end}
+use Rattle.np_command_explain.specs.Prelude.{Address, AreEnds, AreNamed, AskedEnd, At, End, EndWord, EstateLists, ExplainedEnds, Explains, Explanation, Family, Fault, Four, HasPods, HaveBothFamilies, IsAsked, IsRightIn, SameEnd, Six, Work, are_one, asked_end, destination_end, ends_between, explanations, in_families, one_for_all, one_for_each, shown_of_both, source_end}
 use Rattle.np_command.proofs.EndLemmas.{named_workload}
 use Rattle.np_command_explain.proofs.NamedLemmas.{AsksFor, IsOf, named-of}
-use Rattle.np_command.specs.Prelude.{family_asked, only_family, or_unknown}
+use Rattle.np_command.specs.Prelude.{or_unknown}
 use Rattle.np_model.specs.Prelude.{IsLawful, families_of, has_family, or_four}
 use Rattle.np_model.specs.declared.pod.Pod.{Pod}
 use Rattle.np_explain.proofs.ExplanationLemmas.{explanation-right, right-alike, same_sides-Decides, same_sides-right}
-use Rattle.np_explain.specs.Prelude.{IsRightFor, explanation_of, same_sides}
+use Rattle.np_explain.specs.Prelude.{IsRightFor, explanation_of, family_asked, only_family, packet_families, same_sides}
 use Rattle.np_fold.proofs.WorkloadLemmas.{pods-ascend}
 use Rattle.np_fold.specs.Prelude.{Folding, folding_of, members_of, number_named, workload_number}
 use Rattle.np_routes.proofs.KindRoutes.{one_workload-alike}
@@ -23,6 +23,7 @@ use Rattle.np_kinds.proofs.KindVerdicts.{SameKindEnd, SameKindEnd-ends, got-same
 use Rattle.np_kinds.proofs.MemberLemmas.{destination-member, member-number, members-some, members-within, source-member}
 use Rattle.np_kinds.specs.Prelude.{IsWorkload, destination_pod, is_alone, source_pod}
 use Rattle.np_args.specs.declared.end_word.EndWord.TheVariants as word
+use Rattle.np_addr.specs.Prelude.{family_of}
 
 -- ---- ends
 
@@ -187,12 +188,12 @@ only-contained [] one family is has = absurd (cc)
 only-contained (x ∷ []) one family is has = cc (Contains-one x family has)
 only-contained (x ∷ y ∷ more) one family is has = absurd (cc)
 
-asked-family : (lists : EstateLists) (source destination : AskedEnd) (s d : End) (one family : Family) → IsOf lists source s → IsOf lists destination d → IsFamilyBetween lists s d family
+asked-family : (lists : EstateLists) (source destination : AskedEnd) (s d : End) (one family : Family) → IsOf lists source s → IsOf lists destination d → Contains (packet_families lists s d) family
     → family_asked lists (source_end (folding_of lists) source) (destination_end (folding_of lists) source destination) ≡ Some one → one ≡ family
 asked-family lists (At address) destination s d one family s_is d_is between asked =
-    cc (subst (λ (x : End). IsFamilyBetween lists x d family) s_is between)
+    only-contained (family_of address ∷ []) one family asked (subst (λ (x : End). Contains (packet_families lists x d) family) s_is between)
 asked-family lists (Work source) (At address) (end.Pod p) d one family s_is d_is between asked =
-    cc (subst (λ (x : End). IsFamilyBetween lists (end.Pod p) x family) d_is between)
+    only-contained (family_of address ∷ []) one family asked (subst (λ (x : End). Contains (packet_families lists (end.Pod p) x) family) d_is between)
 asked-family lists (Work source) (Work destination) (end.Pod p) (end.Pod q) one family s_is d_is between asked = only-contained (families_of lists.pods) one family asked between
 asked-family lists (Work source) destination (end.At address) d one family s_is d_is between asked = absurd s_is
 asked-family lists (Work source) (Work destination) (end.Pod p) (end.At address) one family s_is d_is between asked = absurd d_is
@@ -211,7 +212,7 @@ both-contained pods family none = both-of (has_family pods Four) (has_family pod
 
 -- where no family alone is asked about there are packets of both
 both-asked : (lists : EstateLists) (source destination : AskedEnd) (s d : End) (family : Family) → IsOf lists source s → IsOf lists destination d
-    → family_asked lists (source_end (folding_of lists) source) (destination_end (folding_of lists) source destination) ≡ None → IsFamilyBetween lists s d family
+    → family_asked lists (source_end (folding_of lists) source) (destination_end (folding_of lists) source destination) ≡ None → Contains (packet_families lists s d) family
 both-asked lists (At address) destination s d family s_is d_is asked = absurd (cc)
 both-asked lists (Work source) (At address) s d family s_is d_is asked = absurd (cc)
 both-asked lists (Work source) (Work destination) (end.Pod p) (end.Pod q) family s_is d_is asked = both-contained lists.pods family asked

@@ -13,7 +13,7 @@ use Rattle.std.specs.Option.{option_map_or}
 use Rattle.std.specs.Ordering.{nat_cmp}
 use Rattle.std.specs.Str.{bytes_eq}
 use Rattle.np_base.proofs.Orders.{not-before}
-use Rattle.np_command_explain.specs.Prelude.{Address, AskedEnd, At, End, EndWord, EstateLists, Fault, IsPodOfNamed, NamesEnd, NamesNone, UnknownEnd, Work, are_one, asked_end, destination_end, source_end}
+use Rattle.np_command_explain.specs.Prelude.{Address, AskedEnd, At, End, EndWord, EstateLists, Fault, NamesEnd, NamesNone, UnknownEnd, Work, are_one, asked_end, destination_end, source_end}
 use Rattle.np_args.specs.declared.end_word.EndWord.TheVariants as word
 use Rattle.np_classes.proofs.Lists.{no_position}
 use Rattle.np_classes.proofs.Relations.{firsts-le-count}
@@ -76,7 +76,7 @@ members-at : (lists : EstateLists) (number : ℕ) (d : Workload) → number < le
 unfolding folding_of
 members-at lists number d within = ap (λ (found : Option Workload). option_map_or (λ (one : Workload). one.members) found []) (slice_get-get_or (workloads_of lists) number d within)
 
-pods-named : (lists : EstateLists) (name : List ℕ) (number place : ℕ) → IsLawful lists → number_named (folding_of lists) name ≡ Some number → IsPodOfNamed lists name place
+pods-named : (lists : EstateLists) (name : List ℕ) (number place : ℕ) → IsLawful lists → number_named (folding_of lists) name ≡ Some number → NamesEnd lists (word.Named name) (end.Pod place)
     → Contains (members_of (folding_of lists) number) place
 pods-named lists name number place lawful found (one, has, named, member) =
     let ws = workloads_of lists in
@@ -88,7 +88,7 @@ pods-named lists name number place lawful found (one, has, named, member) =
     subst (λ (pods : List ℕ). Contains pods place) (sym members) member
 
 named-pods : (lists : EstateLists) (name : List ℕ) (number place : ℕ) → number_named (folding_of lists) name ≡ Some number → Contains (members_of (folding_of lists) number) place
-    → IsPodOfNamed lists name place
+    → NamesEnd lists (word.Named name) (end.Pod place)
 named-pods lists name number place found member =
     let d : Workload = record { name = []; members = [] } in
     let told = found-named lists name number d found in (
@@ -99,7 +99,7 @@ named-pods lists name number place found member =
     )
 
 -- a name that has no number names no pod
-unnamed : (lists : EstateLists) (name : List ℕ) (place : ℕ) → number_named (folding_of lists) name ≡ None → IsPodOfNamed lists name place → ⊥
+unnamed : (lists : EstateLists) (name : List ℕ) (place : ℕ) → number_named (folding_of lists) name ≡ None → NamesEnd lists (word.Named name) (end.Pod place) → ⊥
 unfolding folding_of
 unnamed lists name place none (one, has, named, member) =
     let test : Workload → Bool = λ w. bytes_eq w.name name in

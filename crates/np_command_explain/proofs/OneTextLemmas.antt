@@ -1,12 +1,12 @@
 -- Explanations of the same ends have one text. For `one_text_says_what_decides`.
 use Rattle.std.proofs.Common.{◌≡◌, ℕ, List, [], ◌∷◌, Contains, Option, Some, None, filter, refl, sym, subst, ◌∙◌, arith}
 use Rattle.np_addr.specs.Prelude.{family_of}
-use Rattle.np_command_explain.specs.Prelude.{AreNamed, Egress, End, EndWord, EstateLists, Explains, ExplainsAll, Explanation, Family, Four, HaveSameParts, Ingress, IsFamilyBetween, Shown, Six, explain_text, one_for_all, one_for_each, shown, shown_text}
+use Rattle.np_command_explain.specs.Prelude.{AreNamed, Egress, End, EndWord, EstateLists, Explains, ExplainsAll, Explanation, Family, Four, Ingress, Shown, Six, explain_text, one_for_all, one_for_each, shown, shown_text}
 use Rattle.np_command.specs.Prelude.{SinkTrace, end_text}
 use Rattle.np_conns.proofs.ConnLemmas.{conns_text-agrees}
 use Rattle.np_conns.specs.Prelude.{conns_text, has_spot}
 use Rattle.np_explain.proofs.OneListLemmas.{one_is_right}
-use Rattle.np_explain.specs.Prelude.{IsRightFor, decider_between}
+use Rattle.np_explain.specs.Prelude.{IsRightFor, decider_between, packet_families}
 use Rattle.np_model.specs.Prelude.{has_family, or_four}
 use Rattle.np_rules.specs.declared.packet.End.TheVariants as end
 
@@ -15,7 +15,7 @@ use Rattle.np_rules.specs.declared.packet.End.TheVariants as end
 module _ (lists : EstateLists) (source destination : End) (family : Family) (one other : Explanation) (is : IsRightFor lists source destination family one)
     (is' : IsRightFor lists source destination family other) where
   -- explanations that are right between two ends have the same parts
-  same-parts : HaveSameParts one other
+  same-parts : (one.egress ≡ other.egress) × (one.ingress ≡ other.ingress)
   same-parts = (
     one_is_right (decider_between lists Egress source destination family) one.egress other.egress is.egress is'.egress,
     one_is_right (decider_between lists Ingress source destination family) one.ingress other.ingress is.ingress is'.ingress,
@@ -36,15 +36,15 @@ some-of [] = (Four, (0, omega arith, refl))
 some-of (family ∷ families) = (family, (0, omega arith, refl))
 
 -- between two ends there are packets of some family
-some-family : (lists : EstateLists) (source destination : End) → (family : Family) × IsFamilyBetween lists source destination family
+some-family : (lists : EstateLists) (source destination : End) → (family : Family) × Contains (packet_families lists source destination) family
 some-family lists (end.Pod p) (end.Pod q) = some-of (filter (has_family lists.pods) (Four ∷ Six ∷ []))
-some-family lists (end.Pod p) (end.At address) = (family_of address, refl)
-some-family lists (end.At address) destination = (family_of address, refl)
+some-family lists (end.Pod p) (end.At address) = (family_of address, (0, omega arith, refl))
+some-family lists (end.At address) destination = (family_of address, (0, omega arith, refl))
 
 module _ (lists : EstateLists) (from to : EndWord) (source destination : End) (named : AreNamed lists from to source destination) where
   -- what is right in both families has the same parts in both
   both-same : (made four six : Explanation) → ((family : Family) → IsRightFor lists source destination family made) → IsRightFor lists source destination Four four →
-      IsRightFor lists source destination Six six → HaveSameParts four six
+      IsRightFor lists source destination Six six → (four.egress ≡ six.egress) × (four.ingress ≡ six.ingress)
   both-same made four six each right right' =
       let first = same-parts lists source destination Four made four (each Four) right in
       let second = same-parts lists source destination Six made six (each Six) right' in

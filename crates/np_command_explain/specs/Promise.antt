@@ -1,24 +1,18 @@
 -- What a report of `explain` says of the bytes of its inputs, and why there is none.
 use Rattle.std.specs.Prelude.{◌≡◌, ℕ, List, [], ◌∷◌, Some, None, Contains, true, false, Ok}
-use Rattle.np_addr.specs.Prelude.{family_of}
 use Rattle.np_command_explain.specs.Types.{End, EndWord, EstateLists, Explanation, Family, Fault, Four, SameEnd, Shown, Six, UnknownEnd}
 use Rattle.np_args.specs.declared.end_word.EndWord.TheVariants as word
 use Rattle.np_command.specs.Prelude.{SinkTrace, TookWhole, end_text, lists_of}
 use Rattle.np_command_explain.specs.Report.{explain_text, shown}
-use Rattle.np_explain.specs.Prelude.{IsRightFor, are_one_pod}
+use Rattle.np_explain.specs.Prelude.{IsRightFor, are_one_pod, packet_families}
 use Rattle.np_fold.specs.Prelude.{Workload, workloads_of}
-use Rattle.np_model.specs.Prelude.{families_of}
 use Rattle.np_rules.specs.declared.packet.End.TheVariants as end
 
 -- ---- the ends
 
--- the pod at a place is one of the workload of a name
-abbrev pub IsPodOfNamed : EstateLists → List ℕ → ℕ → Type 0
-IsPodOfNamed lists name place = (one : Workload) × Contains (workloads_of lists) one × (one.name ≡ name) × Contains one.members place
-
 -- a word names an end: each pod of the workload of its name, or its address
 abbrev pub NamesEnd : EstateLists → EndWord → End → Type 0
-NamesEnd lists (word.Named name) (end.Pod place) = IsPodOfNamed lists name place
+NamesEnd lists (word.Named name) (end.Pod place) = (one : Workload) × Contains (workloads_of lists) one × (one.name ≡ name) × Contains one.members place
 NamesEnd lists (word.Named name) (end.At address) = ⊥
 NamesEnd lists (word.At address) one = one ≡ end.At address
 
@@ -26,34 +20,23 @@ NamesEnd lists (word.At address) one = one ≡ end.At address
 abbrev pub AreNamed : EstateLists → EndWord → EndWord → End → End → Type 0
 AreNamed lists from to source destination = NamesEnd lists from source × NamesEnd lists to destination × (are_one_pod source destination ≡ false)
 
--- There are packets of the family between two ends: between pods those of the list's families, and else those of the
--- address's, of the source's where both are addresses.
-abbrev pub IsFamilyBetween : EstateLists → End → End → Family → Type 0
-IsFamilyBetween lists (end.Pod p) (end.Pod q) family = Contains (families_of lists.pods) family
-IsFamilyBetween lists (end.Pod p) (end.At address) family = family ≡ family_of address
-IsFamilyBetween lists (end.At address) destination family = family ≡ family_of address
-
 -- ---- what is shown
 
 -- between all ends that the words name, an explanation names what decides the packets of a family, and which are allowed
 abbrev pub IsRightIn : EstateLists → EndWord → EndWord → Family → Explanation → Type 0
 IsRightIn lists from to family made =
-    (source destination : End) → AreNamed lists from to source destination → IsFamilyBetween lists source destination family → IsRightFor lists source destination family made
+    (source destination : End) → AreNamed lists from to source destination → Contains (packet_families lists source destination) family → IsRightFor lists source destination family made
 
 -- between all ends that the words name there are packets of both families
 abbrev pub HaveBothFamilies : EstateLists → EndWord → EndWord → Type 0
-HaveBothFamilies lists from to = (source destination : End) (family : Family) → AreNamed lists from to source destination → IsFamilyBetween lists source destination family
-
--- both sides of two explanations have the same parts
-abbrev pub HaveSameParts : Explanation → Explanation → Type 0
-HaveSameParts one other = (one.egress ≡ other.egress) × (one.ingress ≡ other.ingress)
+HaveBothFamilies lists from to = (source destination : End) (family : Family) → AreNamed lists from to source destination → Contains (packet_families lists source destination) family
 
 -- One explanation without a mark is shown, which is right in each family of packets; or, where there are both, that of IPv4
 -- and that of IPv6, which have other parts.
 pub data Explains (lists : EstateLists) (from to : EndWord) (all : List Shown) : Type 0 where
   one_for_all : (made : Explanation) → all ≡ shown None made ∷ [] → ((family : Family) → IsRightIn lists from to family made) → Explains lists from to all
   one_for_each : (four six : Explanation) → all ≡ shown (Some Four) four ∷ shown (Some Six) six ∷ [] → IsRightIn lists from to Four four → IsRightIn lists from to Six six
-      → HaveBothFamilies lists from to → (HaveSameParts four six → ⊥) → Explains lists from to all
+      → HaveBothFamilies lists from to → ((four.egress ≡ six.egress) × (four.ingress ≡ six.ingress) → ⊥) → Explains lists from to all
 
 -- The bytes of the inputs are those of an estate, the words name two ends, and the sink took explanations that name what
 -- decides between all that they name.

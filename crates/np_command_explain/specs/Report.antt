@@ -1,10 +1,10 @@
 -- `explain`: what decides between two ends.
 use Rattle.std.specs.Prelude.{ℕ, List, [], ◌∷◌, ◌++◌, Bool, false, codes, flat_map, Option, Some, None, Result, Ok, Err, if◌then◌else◌}
 use Rattle.np_command_explain.specs.Types.{AskedEnd, At, Direction, Egress, End, ExplainedEnds, EndWord, EstateLists, Explanation, Family, Fault, Four, Ingress, Part, SameEnd, Shown, Six, Work}
-use Rattle.np_command.specs.Prelude.{end_text, family_asked, or_unknown}
+use Rattle.np_command.specs.Prelude.{end_text, or_unknown}
 use Rattle.np_conns.specs.Prelude.{conns_text, has_spot}
 pub use Rattle.np_explain.specs.PartLine.{part_line}
-use Rattle.np_explain.specs.Prelude.{explanation_of, same_sides}
+use Rattle.np_explain.specs.Prelude.{explanation_of, family_asked, same_sides}
 use Rattle.np_fold.specs.Prelude.{Folding, folding_of, number_named}
 use Rattle.np_model.specs.Prelude.{direction_text}
 use Rattle.np_report.specs.Prelude.{family_suffix}

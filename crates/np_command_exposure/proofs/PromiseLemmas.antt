@@ -3,8 +3,8 @@ use Rattle.std.proofs.Common.{◌≡◌, ℕ, List, flat_map, Option, None, Some
 use Rattle.np_command_exposure.specs.Types.{EstateLists, Fault, Format, RowText, ShownSide}
 use Rattle.np_command.specs.Prelude.{SinkTrace, TookWhole, fault_in, lists_of, text_in}
 use Rattle.np_command.proofs.EndLemmas.{no_fault_at}
-use Rattle.np_command_exposure.proofs.SideLemmas.{all_rows-same, asked-sides, few-sides, first-over, rows_at, says-all, unknown-name, well-at}
-use Rattle.np_command_exposure.specs.Promise.{ExposesAll, RefusesExposure, texts_of_side, too_many, unknown}
+use Rattle.np_command_exposure.proofs.SideLemmas.{all_rows-same, asked-sides, few-sides, first-over, rows_at, says-all, texts_of_side, unknown-name, well-at}
+use Rattle.np_command_exposure.specs.Promise.{ExposesAll, RefusesExposure, too_many, unknown}
 use Rattle.np_command_exposure.specs.Report.{exposure_of_sides, exposure_reply, exposure_text, first_fault, side_rows, sides_shown, text_unless}
 use Rattle.np_model.specs.Prelude.{IsLawful}
 use Rattle.np_report.specs.Prelude.{report_text}

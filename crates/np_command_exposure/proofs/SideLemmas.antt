@@ -7,7 +7,7 @@ use Rattle.std.proofs.lemmas.List.Elements.{All-contains, All-from_recursion, Co
 use Rattle.std.proofs.lemmas.List.Folds.{list_any_at}
 use Rattle.std.proofs.lemmas.Option.{slice_get-get_or}
 use Rattle.std.proofs.lemmas.Slice.Eq.{bytes_eq-Decides}
-use Rattle.std.specs.List.{AllByRecursion, range_with_len}
+use Rattle.std.specs.List.{AllByRecursion, range_with_len, list_all}
 use Rattle.std.specs.Option.{option_map_or}
 use Rattle.std.specs.Str.{bytes_eq}
 use Rattle.np_classes.proofs.Lists.{no_position}
@@ -15,13 +15,13 @@ use Rattle.np_command.specs.Prelude.{or_unknown}
 use Rattle.np_command_exposure.specs.Types.{Direction, EstateLists, ExposureRow, Fault, RowText, ShownSide, Stranger, TooManyPatterns, UnknownEnd}
 use Rattle.np_command.proofs.EndLemmas.{no_workload, found-named}
 use Rattle.np_command_exposure.proofs.ExposureLemmas.{both-none, few-at}
-use Rattle.np_command_exposure.specs.Promise.{AreAsked, HasWellRequirements, IsFirstOver, SaysWhatIsExposed, WorkloadSide, sides_of, texts_of_side, weight_of}
+use Rattle.np_command_exposure.specs.Promise.{AreAsked, IsFirstOver, SaysWhatIsExposed, WorkloadSide, sides_of, weight_of}
 use Rattle.np_command_exposure.specs.Report.{both_sides, exposure_row_text, first_fault, or_later, side_rows, sides_shown, weight_at, weight_fault}
 use Rattle.np_exposure.proofs.LeftLemmas.{rows_of-are}
 use Rattle.np_exposure.proofs.RightLemmas.{each_row-first, first_row-tells}
 use Rattle.np_exposure.proofs.WellLemmas.{rows_of-well}
 use Rattle.np_command_exposure.proofs.WorkloadLemmas.{workload-rows}
-use Rattle.np_exposure.specs.Prelude.{FirstRowTells, is_hypothetical, mentions, rows_of, weight}
+use Rattle.np_exposure.specs.Prelude.{FirstRowTells, are_well, is_hypothetical, mentions, rows_of, weight}
 use Rattle.np_exposure.specs.declared.exposures.TheConstants.{MOST_PATTERNS}
 use Rattle.np_fold.specs.Prelude.{Workload, folding_of, members_of, name_of_workload, number_named, workloads_of}
 use Rattle.np_model.specs.Prelude.{IsLawful}
@@ -153,6 +153,10 @@ unknown-name lists (Some name) fault is = by (number_named (folding_of lists) na
 abbrev pub rows_at : EstateLists → WorkloadSide → List ExposureRow
 rows_at lists side = rows_of (side_of lists (slice_index side.workload.members 0) side.direction)
 
+-- the texts of the rows of a side
+abbrev pub texts_of_side : (WorkloadSide → List ExposureRow) → WorkloadSide → List RowText
+texts_of_side rows side = map (exposure_row_text side.workload.name side.direction) (rows side)
+
 -- the texts of a side's rows are the same by the number and by the workload
 rows-same : (lists : EstateLists) (shown : ShownSide) (side : WorkloadSide) → IsSideOf lists shown side → side_rows lists shown ≡ texts_of_side (rows_at lists) side
 unfolding side_rows
@@ -216,7 +220,7 @@ says-all lists shown sides lawful are side has =
     All-contains P sides side (All-from_recursion P sides (says-each lists shown sides lawful are)) has
 
 -- the requirements of lawful lists are as policies have them
-pub well-at : (lists : EstateLists) → IsLawful lists → (side : WorkloadSide) → HasWellRequirements (rows_at lists side)
+pub well-at : (lists : EstateLists) → IsLawful lists → (side : WorkloadSide) → list_all (λ row. are_well row.requirements) (rows_at lists side) ≡ true
 well-at lists lawful side =
     let near : PodSide = side_of lists (slice_index side.workload.members 0) side.direction in
     rows_of-well near (rows_of near) lawful.well (rows_of-are near)

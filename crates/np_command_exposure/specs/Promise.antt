@@ -36,14 +36,6 @@ abbrev pub SaysWhatIsExposed : EstateLists → WorkloadSide → List ExposureRow
 SaysWhatIsExposed lists side rows = IsEachFirst is_hypothetical rows
     × ((p : ℕ) (s : Stranger) → Contains side.workload.members p → is_hypothetical s ≡ true → FirstRowTells (side_of lists p side.direction) rows s)
 
--- The requirements of each row are as policies have them: keys and values are words, no key is empty, and the values fit the operator.
-abbrev pub HasWellRequirements : List ExposureRow → Type 0
-HasWellRequirements rows = list_all (λ row. are_well row.requirements) rows ≡ true
-
--- the texts of the rows of a side
-abbrev pub texts_of_side : (WorkloadSide → List ExposureRow) → WorkloadSide → List RowText
-texts_of_side rows side = map (exposure_row_text side.workload.name side.direction) (rows side)
-
 -- The bytes of the inputs are those of an estate, and the sink took rows for each side that is asked for, which say what is
 -- exposed there, and whose texts tell their requirements.
 pub record ExposesAll (out : SinkTrace) (workload : Option (List ℕ)) (format : Format) (texts : List (List ℕ)) : Type 0 where
@@ -54,8 +46,8 @@ pub record ExposesAll (out : SinkTrace) (workload : Option (List ℕ)) (format :
   pub asked : AreAsked lists workload sides
   pub few : (side : WorkloadSide) → Contains sides side → weight_of lists side ≤ MOST_PATTERNS
   pub exposed : (side : WorkloadSide) → Contains sides side → SaysWhatIsExposed lists side (rows side)
-  pub well : (side : WorkloadSide) → Contains sides side → HasWellRequirements (rows side)
-  pub printed : TookWhole out (report_text format (flat_map (texts_of_side rows) sides))
+  pub well : (side : WorkloadSide) → Contains sides side → list_all (λ row. are_well row.requirements) (rows side) ≡ true
+  pub printed : TookWhole out (report_text format (flat_map (λ side. map (exposure_row_text side.workload.name side.direction) (rows side)) sides))
 
 -- ---- refusals
 

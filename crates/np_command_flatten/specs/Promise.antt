@@ -1,5 +1,5 @@
 -- What a report of `flatten` says of the bytes of its inputs, and why there is none.
-use Rattle.std.specs.Prelude.{◌≡◌, ◌≢◌, ◌<◌, ℕ, List, [], ◌∷◌, Contains, None, Ok, length, true}
+use Rattle.std.specs.Prelude.{◌≡◌, ◌≢◌, ◌<◌, ◌⊎◌, ℕ, List, [], ◌∷◌, Contains, None, Ok, length, true}
 use Rattle.np_command_flatten.specs.Types.{Direction, EstateLists, Family, Fault, NetPolicy, PortSpot}
 use Rattle.np_command.specs.Prelude.{SinkTrace, TookWhole, lists_of}
 use Rattle.np_command.specs.declared.fault.Fault.TheVariants.{Alike, Split}
@@ -8,7 +8,7 @@ use Rattle.np_fold.specs.Prelude.{folding_of, name_of_workload, workload_number}
 use Rattle.np_model.specs.Prelude.{families_of}
 use Rattle.np_reading.specs.Prelude.{estate_of}
 use Rattle.np_rules.specs.Prelude.{pod, pod_at}
-use Rattle.np_flatten.specs.Prelude.{IsLexicallyBefore, look_alike, relevant}
+use Rattle.np_flatten.specs.Prelude.{look_alike}
 use Rattle.np_table.specs.Prelude.{IsInFamily}
 use Rattle.np_kinds.specs.Prelude.{between_pods, with_address}
 
@@ -61,7 +61,8 @@ workload_name lists p = name_of_workload (folding_of lists) (workload_number lis
 
 -- the workloads of two pods come before those of two others, by the first and then by the second
 abbrev pub AreBefore : EstateLists → ℕ → ℕ → ℕ → ℕ → Type 0
-AreBefore lists p q r s = IsLexicallyBefore (workload_number lists p) (workload_number lists q) (workload_number lists r) (workload_number lists s)
+AreBefore lists p q r s = (workload_number lists p < workload_number lists r)
+    ⊎ ((workload_number lists p ≡ workload_number lists r) × (workload_number lists q < workload_number lists s))
 
 -- at two places there are pods, and different ones
 abbrev pub AreTwoPods : EstateLists → ℕ → ℕ → Type 0
@@ -78,7 +79,7 @@ AreFamiliesAlike lists p q = (family other : Family) (spot : PortSpot) → IsLis
 
 -- two pods of two workloads, of the earlier one first, that selectors do not tell apart
 abbrev pub LookAlike : EstateLists → ℕ → ℕ → Type 0
-LookAlike lists p q = AreTwoPods lists p q × (workload_number lists p < workload_number lists q) × (look_alike (relevant lists) (pod_at lists p) (pod_at lists q) ≡ true)
+LookAlike lists p q = AreTwoPods lists p q × (workload_number lists p < workload_number lists q) × (look_alike (folding_of lists).relevant (pod_at lists p) (pod_at lists q) ≡ true)
 
 -- No packet tells two pods apart: either may send the same to every third pod, receive the same of it, and send the
 -- other the same, and the same passes between either and every address, either way.

@@ -1,11 +1,11 @@
 -- What each row of a list is of.
-use Rattle.std.specs.Prelude.{◌≡◌, ◌≢◌, ◌<◌, ◌≤◌, ◌+◌, ◌↔◌, ℕ, true, length, Contains}
+use Rattle.std.specs.Prelude.{◌≡◌, ◌≢◌, ◌<◌, ◌≤◌, ◌+◌, ◌↔◌, ℕ, None, true, length, Contains}
 use Rattle.np_command_list.specs.Types.{AddressSpan, Controller, Direction, Egress, EstateLists, Family, Four, Ingress, PortSpot, Range, Row, RowEnd, Six, Span, Work}
 use Rattle.np_conns.specs.Prelude.{Conns, has_spot, is_spot}
 use Rattle.np_fold.specs.Prelude.{workload_number}
 use Rattle.np_model.specs.Prelude.{families_of}
 use Rattle.np_rules.specs.Prelude.{pod, pod_at}
-use Rattle.np_table.specs.Prelude.{AllowSamePorts, IsInFamily, IsUnmarked}
+use Rattle.np_table.specs.Prelude.{AllowSamePorts, IsInFamily}
 use Rattle.np_kinds.specs.Prelude.{between_pods, with_address}
 use Rattle.np_table.specs.declared.rows.AddressSpan.TheVariants as span
 
@@ -31,7 +31,7 @@ pub record IsPairRow (lists : EstateLists) (source destination : ℕ) (row : Row
   pub receiver : IsPodOf lists destination q
   pub apart : p ≢ q
   pub some : LetSomePass row.conns
-  pub mark : IsUnmarked row ↔ AgreeInFamilies lists p q
+  pub mark : (row.family ≡ None) ↔ AgreeInFamilies lists p q
 
 -- A row of a range of addresses is of a pod, and the range is not empty. At the address behind the range, where there is one, the
 -- model allows other ports than in it. It stands even where no port passes, as `No Connections`.
@@ -40,7 +40,7 @@ pub record IsAddressRow (lists : EstateLists) (workload : ℕ) (direction : Dire
   pub near : IsPodOf lists workload p
   pub filled : range.lo ≤ range.hi
   pub within : IsInFamily family range.hi
-  pub unmarked : IsUnmarked row
+  pub unmarked : row.family ≡ None
   pub changes : IsInFamily family (range.hi + 1) → AllowSamePorts (has_spot row.conns) (with_address lists direction (pod (pod_at lists p)) family (range.hi + 1)) → ⊥
 
 abbrev pub IsSpanRow : EstateLists → ℕ → Direction → AddressSpan → Row → Type 0
@@ -51,7 +51,7 @@ IsSpanRow lists workload direction (span.Six range) row = IsAddressRow lists wor
 pub record IsIngressRow (lists : EstateLists) (workload : ℕ) (row : Row) : Type 0 where
   pub p : ℕ
   pub receiver : IsPodOf lists workload p
-  pub unmarked : IsUnmarked row
+  pub unmarked : row.family ≡ None
   pub some : LetSomePass row.conns
 
 -- a row between two ends is one of these

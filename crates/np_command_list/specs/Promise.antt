@@ -1,5 +1,5 @@
 -- What a report of `list` says of the bytes of its inputs: the theorem of the program.
-use Rattle.std.specs.Prelude.{◌≡◌, ◌≢◌, ◌<◌, ◌⊎◌, ℕ, List, length, slice_get, All, AllPairs, Contains, true, ◌&&◌, not, Option, Some, None, Ok}
+use Rattle.std.specs.Prelude.{◌≡◌, ◌≢◌, ◌<◌, ◌⊎◌, ℕ, List, filter, length, map, slice_get, All, AllPairs, Contains, true, ◌&&◌, not, Option, Some, None, Ok}
 use Rattle.np_command_list.specs.Types.{AddressSpan, Direction, EstateLists, Family, Fault, FocusSide, Format, PortSpot, Query, Report, Row, Span, UnknownEnd}
 use Rattle.np_command.specs.Prelude.{SinkTrace, TookWhole, lists_of}
 use Rattle.np_command_list.specs.EachRow.{IsRowOf}
@@ -7,11 +7,11 @@ use Rattle.np_command_list.specs.RowOrder.{ComesBefore}
 use Rattle.np_conns.specs.Prelude.{is_spot}
 use Rattle.np_fold.specs.Prelude.{folding_of, workload_number}
 use Rattle.np_model.specs.Prelude.{families_of}
-use Rattle.np_report.specs.Prelude.{keeps, names_of, report_text, texts_of}
+use Rattle.np_report.specs.Prelude.{keeps, names_of, report_text, row_text}
 use Rattle.np_report.specs.declared.query.Query.TheVariants as query
-use Rattle.np_routes.specs.Prelude.{ingress_key, ingress_reaches, is_controller, rows_from_controller, sender_of}
+use Rattle.np_routes.specs.Prelude.{ingress_key, ingress_reaches, is_controller, is_from_controller, sender_of}
 use Rattle.np_rules.specs.Prelude.{pod, pod_at}
-use Rattle.np_table.specs.Prelude.{IsInFamily, OneRowSays, allows_in, key_of, pair_key, rows_between}
+use Rattle.np_table.specs.Prelude.{IsInFamily, OneRowSays, allows_in, is_between, key_of, pair_key}
 use Rattle.np_kinds.specs.Prelude.{between_pods, with_address}
 
 -- ---- what is asked for
@@ -35,7 +35,7 @@ query_for (Some workload) side = query.Work workload side
 abbrev pub SaysPods : EstateLists → Query → List Row → Type 0
 SaysPods lists query rows = (p q : ℕ) (family : Family) (spot : PortSpot) → p < length lists.pods → q < length lists.pods → p ≢ q
     → Contains (families_of lists.pods) family → is_spot spot ≡ true → keeps query (pair_key (workload_number lists p) (workload_number lists q)) ≡ true
-    → allows_in (rows_between (workload_number lists p) (workload_number lists q) rows) family spot ≡ between_pods lists p q family spot
+    → allows_in (filter (is_between (workload_number lists p) (workload_number lists q)) rows) family spot ≡ between_pods lists p q family spot
 
 -- For every pod, direction and address of either family, where rows of the pod's workload and addresses are asked for, whatever
 -- range they have, there is exactly one whose range has the address, and it says exactly which ports the model allows between the two.
@@ -50,7 +50,7 @@ SaysAddresses lists query rows = (p : ℕ) (direction : Direction) (family : Fam
 -- none is.
 abbrev pub SaysIngresses : EstateLists → Option ℕ → Query → List Row → Type 0
 SaysIngresses lists sender query rows = (p : ℕ) (family : Family) (spot : PortSpot) → p < length lists.pods → is_spot spot ≡ true
-    → keeps query (ingress_key (workload_number lists p)) ≡ true → allows_in (rows_from_controller (workload_number lists p) rows) family spot
+    → keeps query (ingress_key (workload_number lists p)) ≡ true → allows_in (filter (is_from_controller (workload_number lists p)) rows) family spot
     ≡ (not (is_controller sender (workload_number lists p)) && ingress_reaches lists (sender_of (folding_of lists) sender) p spot)
 
 -- Each row is asked for, is of pods of the estate, and comes before those behind it; and together they say what the model allows.
@@ -75,7 +75,7 @@ pub record SaysAll (out : SinkTrace) (format : Format) (report : Report) (contro
   pub sender_named : IsNamed lists controller sender
   pub focus_named : IsNamed lists focus focused
   pub says : SayWhatPasses lists sender (query_for focused side) rows
-  pub printed : TookWhole out (report_text format (texts_of (names_of (folding_of lists)) report rows))
+  pub printed : TookWhole out (report_text format (map (row_text (names_of (folding_of lists)) report) rows))
 
 -- ---- refusals
 

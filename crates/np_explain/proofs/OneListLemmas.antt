@@ -6,10 +6,11 @@ use Rattle.std.specs.List.{list_any}
 use Rattle.std.proofs.lemmas.Bool.{false≢true}
 use Rattle.std.proofs.lemmas.List.Elements.{All-head, All-tail}
 use Rattle.np_base.proofs.Lists.{AllPairs-head, AllPairs-tail}
-use Rattle.np_explain.specs.Prelude.{AreRightParts, Decider, Direction, Egress, End, EstateLists, Family, Ingress, Part, PortSpot, StartsBefore, decider_at, decider_between, end_at, packet_between, some_part_has}
+use Rattle.np_explain.specs.Prelude.{AreRightParts, Decider, Direction, Egress, End, EstateLists, Family, Ingress, Part, PortSpot, StartsBefore, decider_at, decider_between, end_at, packet_between}
 use Rattle.np_conns.specs.Prelude.{Conns, IsConns, equal_by_spots, has_spot, has_spot-is_spot, is_spot}
 use Rattle.np_rules.proofs.DeciderLemmas.{decider_says}
 use Rattle.np_rules.specs.Prelude.{IsAmong, ModelPacket, allows, contact_of, decider_allows, end_allows}
+use Rattle.np_explain.proofs.PartLemmas.{some_part_has}
 
 -- ---- lists in a strict order
 

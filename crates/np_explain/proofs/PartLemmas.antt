@@ -1,6 +1,6 @@
 -- The carved sets, named and in order, are the right parts. For `named_parts` and `parts_with`.
 use Rattle.std.proofs.Common.{◌≡◌, ◌≢◌, ◌↔◌, ℕ, ◌<◌, ◌≤◌, List, [], ◌∷◌, ◌++◌, Bool, true, false, ◌||◌, IsTrue, eqb, length, get_or, map, filter, All, AllPairs, refl, sym, ap, append_assoc, ◌∙◌, subst, arith, inl, inr, if◌then◌else◌}
-use Rattle.std.specs.List.{IsDistinct}
+use Rattle.std.specs.List.{IsDistinct, list_any}
 use Rattle.std.specs.List.Sorted.{IsNonDecreasing, IsNonDecreasingBy, IsPermutation}
 use Rattle.std.proofs.lemmas.Bool.Decides.{nat_tests}
 use Rattle.std.proofs.lemmas.List.{get_or-map, length-map}
@@ -10,7 +10,7 @@ use Rattle.std.proofs.lemmas.List.Sorted.{All-permutation, IsPermutation-map, li
 use Rattle.std.proofs.lemmas.Option.{slice_get_cases}
 use Rattle.std.proofs.lemmas.Map.Keys.{IsDistinct-IsPermutation, IsDistinct-from_apart, IsStrictlyIncreasing-from_distinct}
 use Rattle.np_conns.specs.Prelude.{Conns, IsConns, has_spot, has_spot-is_spot, is_spot}
-use Rattle.np_explain.specs.Prelude.{AreRightParts, Decider, IsMarkOf, Layer, Mark, Marked, Part, PortSpot, StartsBefore, first_number, mark_decider, named_part, some_part_has}
+use Rattle.np_explain.specs.Prelude.{AreRightParts, Decider, IsMarkOf, Layer, Mark, Marked, Part, PortSpot, StartsBefore, first_number, mark_decider, named_part}
 use Rattle.np_model.specs.Prelude.{IsLawful}
 use Rattle.np_explain.proofs.FirstLemmas.{first_is, numbers_tell}
 use Rattle.np_explain.proofs.MarkLemmas.{marks_told}
@@ -26,6 +26,10 @@ pub record IsCarved (layer : Layer Conns) (entries : List (Marked Conns)) : Type
   pub distinct : AllPairs (λ a b. a.mark ≢ b.mark) entries
   pub some_spot : All (λ entry. (spot : PortSpot) × (has_spot entry.set spot ≡ true)) entries
   pub well : All (λ entry. IsConns entry.set) entries
+
+-- whether some part has the spot
+abbrev pub some_part_has : PortSpot → List Part → Bool
+some_part_has spot parts = list_any (λ part. has_spot part.conns spot) parts
 
 -- where the marks at a spot are not none, some part has it
 some_marked : (side : PodSide) (spot : PortSpot) (m : Mark) (entries : List (Marked Conns)) → marks_at (λ set. has_spot set spot) entries ≡ m ∷ [] →

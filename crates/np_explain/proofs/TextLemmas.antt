@@ -1,12 +1,12 @@
 -- A text of what decides belongs to one decider. For `one_text_has_one_decider`.
 use Rattle.std.proofs.Common.{◌≡◌, ℕ, ◌+◌, ◌*◌, ◌<◌, ◌^◌, List, [], ◌∷◌, ◌++◌, length, flat_map, get_or, Bool, true, false, not, ◌&&◌, ◌==◌, nat_lt, codes, decimal, Option, Some, None, is_some, refl, sym, ap, ◌∙◌, append_assoc, arith}
-use Rattle.std.specs.List.{list_all}
+use Rattle.std.specs.List.{list_all, join_by}
 use Rattle.std.proofs.lemmas.Bool.{and_parts, eqb-false, false≢true, not-true, true≢false}
 use Rattle.std.proofs.lemmas.Bool.Decides.{nat_tests}
 use Rattle.std.proofs.lemmas.Fmt.{decimal_injective}
 use Rattle.std.proofs.lemmas.List.{append_cancel_left}
 use Rattle.np_base.proofs.Texts.{texts-apart}
-use Rattle.np_explain.specs.Prelude.{Admin, Base, Decider, Direction, Egress, Free, Ingress, Isolated, Net, NoSide, RuleName, decider_text, has_rule, is_rule_name, is_well_named, names_text, pass_text, rule_text}
+use Rattle.np_explain.specs.Prelude.{Admin, Base, Decider, Direction, Egress, Free, Ingress, Isolated, Net, NoSide, RuleName, decider_text, has_rule, is_rule_name, is_well_named, pass_text, rule_text}
 use Rattle.np_rules.specs.Prelude.{decider_allows, verdict_text}
 use Rattle.np_model.specs.Prelude.{direction_text, is_whole_word, is_word, is_word_byte, option_all}
 use Rattle.np_model.proofs.WordLemmas.{words-cut, decimal-word}
@@ -93,6 +93,10 @@ others_text names = flat_map (λ name. codes ", " ++ name) names
 
 others-spelled : (name : List ℕ) (names : List (List ℕ)) (t : List ℕ) → others_text (name ∷ names) ++ t ≡ 44 ∷ 32 ∷ (name ++ (others_text names ++ t))
 others-spelled name names t = ap (λ (rest : List ℕ). 44 ∷ 32 ∷ rest) (append_assoc name (others_text names) t)
+
+-- names of policies, joined by `, `
+abbrev names_text : List (List ℕ) → List ℕ
+names_text names = join_by (λ name. name) (codes ", ") names
 
 module _ (c c' : ℕ) (t t' : List ℕ) (end : is_word_byte c ≡ false) (end' : is_word_byte c' ≡ false) (no_comma : (c == 44) ≡ false) (no_comma' : (c' == 44) ≡ false) where
   names-one : (v v' : List ℕ) (vs vs' : List (List ℕ)) → list_all is_whole_word (v ∷ vs) ≡ true → list_all is_whole_word (v' ∷ vs') ≡ true

@@ -14,14 +14,10 @@ rule_text direction rule = rule.policy ++ codes " " ++ direction_text direction 
 abbrev pub pass_text : Direction → Option RuleName → List ℕ
 pass_text direction pass = option_map_or (λ rule. codes " after Pass by AdminNetworkPolicy " ++ rule_text direction rule) pass []
 
--- names of policies, joined by `, `
-abbrev pub names_text : List (List ℕ) → List ℕ
-names_text names = join_by (λ name. name) (codes ", ") names
-
 unfoldable pub decider_text : Direction → Decider → List ℕ
 decider_text direction NoSide = codes "Allow since no pod is at this side"
 decider_text direction (Admin rule allow) = verdict_text allow ++ codes " by AdminNetworkPolicy " ++ rule_text direction rule
 decider_text direction (Net pass rule) = codes "Allow by NetworkPolicy " ++ rule_text direction rule ++ pass_text direction pass
-decider_text direction (Isolated pass policies) = codes "Deny since isolated by NetworkPolicy " ++ names_text policies ++ pass_text direction pass
+decider_text direction (Isolated pass policies) = codes "Deny since isolated by NetworkPolicy " ++ join_by (λ name. name) (codes ", ") policies ++ pass_text direction pass
 decider_text direction (Base pass rule allow) = verdict_text allow ++ codes " by BaselineAdminNetworkPolicy " ++ rule_text direction rule ++ pass_text direction pass
 decider_text direction (Free pass) = codes "Allow by default" ++ pass_text direction pass

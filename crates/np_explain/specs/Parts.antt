@@ -18,15 +18,11 @@ pub record StartsBefore (one other : Conns) : Type 0 where
 
 -- ---- the right parts
 
--- whether some part has the spot
-abbrev pub some_part_has : PortSpot → List Part → Bool
-some_part_has spot parts = list_any (λ part. has_spot part.conns spot) parts
-
 -- Each part has exactly the spots that its decider decides, of which there is one at least. Each spot is in some part, no
 -- two parts have one decider, and they stand in the order of their least spots.
 pub record AreRightParts (decides : PortSpot → Decider) (parts : List Part) : Type 0 where
   pub spots : All (λ part. (spot : PortSpot) → is_spot spot ≡ true → IsTrue (has_spot part.conns spot) ↔ (decides spot ≡ part.decider)) parts
-  pub all : (spot : PortSpot) → is_spot spot ≡ true → some_part_has spot parts ≡ true
+  pub all : (spot : PortSpot) → is_spot spot ≡ true → list_any (λ part. has_spot part.conns spot) parts ≡ true
   pub distinct : AllPairs (λ a b. a.decider ≢ b.decider) parts
   pub filled : All (λ part. (spot : PortSpot) × (has_spot part.conns spot ≡ true)) parts
   pub well : All (λ part. IsConns part.conns) parts

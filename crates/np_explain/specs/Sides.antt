@@ -1,7 +1,8 @@
 -- What decides the packets between two ends, at one side of them.
-use Rattle.std.specs.Prelude.{◌≡◌, Bool, true, false, ◌==◌}
+use Rattle.std.specs.Prelude.{◌≡◌, List, [], ◌∷◌, Bool, true, false, ◌==◌, Option, Some, None}
 use Rattle.np_addr.specs.Prelude.{family_of}
 use Rattle.np_explain.specs.Types.{Decider, Direction, Egress, End as PlacedEnd, EstateLists, Family, Ingress, PortSpot}
+use Rattle.np_model.specs.Prelude.{families_of}
 use Rattle.np_rules.specs.Prelude.{Contact, ModelEnd, ModelPacket, PodSide, address, contact, contact_of, decider, end_of, near_pod, pod}
 use Rattle.np_rules.specs.declared.packet.End.TheVariants.{Pod, At}
 
@@ -15,6 +16,21 @@ packet_between lists source destination family spot = record { source = end_of l
 abbrev pub are_one_pod : PlacedEnd → PlacedEnd → Bool
 are_one_pod (Pod p) (Pod q) = p == q
 are_one_pod source destination = false
+
+-- The families of the packets between two ends: that of the end that is an address, and of the source where both are;
+-- between pods those of the estate.
+abbrev pub packet_families : EstateLists → PlacedEnd → PlacedEnd → List Family
+packet_families lists (At a) destination = family_of a ∷ []
+packet_families lists (Pod p) (At a) = family_of a ∷ []
+packet_families lists (Pod p) (Pod q) = families_of lists.pods
+
+abbrev pub only_family : List Family → Option Family
+only_family (one ∷ []) = Some one
+only_family families = None
+
+-- the one family in which packets between two ends are asked about, where they have only one
+abbrev pub family_asked : EstateLists → PlacedEnd → PlacedEnd → Option Family
+family_asked lists source destination = only_family (packet_families lists source destination)
 
 -- the family is that of an end that is an address; at a pod it may be either
 abbrev pub IsFamilyAt : PlacedEnd → Family → Type 0

@@ -3,6 +3,7 @@
 
 mod explaining;
 mod explanation;
+mod families;
 mod flow;
 mod laws;
 mod order;
@@ -14,6 +15,7 @@ mod side;
 
 pub use explaining::explain;
 pub use explanation::{Explanation, explain_sides};
+pub use families::family_asked;
 pub use flow::Flow;
 pub use laws::{
     both_sides_give_the_verdict, deciders_of_read_policies_are_well_named,

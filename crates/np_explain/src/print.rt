@@ -1,6 +1,7 @@
 //! The text of what decides.
-ghost use Rattle.std.specs.Prelude.{◌≡◌, IfOk, string_bytes};
+ghost use Rattle.std.specs.Prelude.{◌≡◌, IfOk, codes, string_bytes};
 ghost use Rattle.np_explain.specs.DeciderText as spec;
+ghost use Rattle.std.specs.List.{join_by};
 
 use np_base::{NoMemory, Text};
 use np_model::Direction;
@@ -79,7 +80,7 @@ fn pass_text(
 
 // Names of policies, joined by `, `.
 fn names_text(alloc: Global, names: &[Text]) -> Result<String, NoMemory>
-    ensures { IfOk result (λ text. string_bytes text ≡ spec.names_text names.now) }
+    ensures { IfOk result (λ text. string_bytes text ≡ join_by (λ name. name) (codes ", ") names.now) }
 {
     let mut text = String::new(alloc);
     let Some((first, others)) = names.split_first() else {

@@ -3,7 +3,7 @@ use Rattle.std.proofs.Common.{◌≡◌, List, [], ◌∷◌, ◌++◌, map, Boo
 use Rattle.std.specs.List.{list_any}
 use Rattle.std.proofs.lemmas.Bool.{and_parts, and_from, false≢true, true≢false, not-true, not_from_false}
 use Rattle.np_conns.specs.Prelude.{Conns, equal_by_spots, has_spot, has_spot-is_spot, is_spot}
-use Rattle.np_exposure.specs.Prelude.{AreRows, AreRowsAt, AreRowsOf, ExposureRow, FirstRowTells, IsAssumed, IsEachFirst, IsExposure, IsJoined, IsPossible, PortSpot, SidedRequirement, Stranger, always, apart, either, equal, is_hypothetical, meets, meets_all, meets_row, negated, never, requirements, with_first}
+use Rattle.np_exposure.specs.Prelude.{AreRows, AreRowsAt, AreRowsOf, ExposureRow, FirstRowTells, IsAssumed, IsEachFirst, IsExposure, IsJoined, IsPossible, PortSpot, SidedRequirement, Stranger, always, apart, either, equal, is_hypothetical, meets, meets_all, negated, never, requirements, with_first}
 use Rattle.np_exposure.proofs.StandsLemmas.{meets-negated}
 use Rattle.np_rules.specs.Prelude.{PodSide}
 
@@ -18,6 +18,10 @@ assumed-missed : (asked : SidedRequirement) (assumed : List SidedRequirement) (s
 assumed-missed asked assumed s is missed = assumed-met (negated asked) assumed s is (meets-negated asked s ∙ ap not missed)
 
 -- ---- the first row that a stranger meets
+
+-- whether a stranger meets a row
+abbrev meets_row : ExposureRow → Stranger → Bool
+meets_row row s = meets_all row.requirements s
 
 abbrev first_met : List ExposureRow → Stranger → Option ExposureRow
 first_met rows s = find (λ row. meets_row row s) rows

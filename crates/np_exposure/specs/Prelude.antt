@@ -4,7 +4,7 @@ pub use Rattle.np_exposure.specs.Mentions.{each_once, is_same, namespace_is, of_
 unfoldable pub use Rattle.np_exposure.specs.Mentions.{mentions}
 pub use Rattle.np_exposure.specs.PeerText.{are_well, asked_text, named_side_text, requirement_text, values_text}
 unfoldable pub use Rattle.np_exposure.specs.PeerText.{peer_text}
-pub use Rattle.np_exposure.specs.Right.{FirstRowTells, IsEachFirst, meets_row}
+pub use Rattle.np_exposure.specs.Right.{FirstRowTells, IsEachFirst}
 pub use Rattle.np_exposure.specs.Rows.{are_same_row, are_same_rows, bare_row, joined_rows, rows_at, rows_of}
 unfoldable pub use Rattle.np_exposure.specs.Rows.{rows_left}
 pub use Rattle.np_exposure.specs.Strangers.{IsExposure, exposes, is_hypothetical, labels_at, meets, meets_all, negated}

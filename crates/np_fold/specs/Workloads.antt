@@ -7,7 +7,8 @@ use Rattle.std.specs.declared.alloc.Global.{Global}
 use Rattle.np_classes.specs.Classes.{class_of, firsts, members, of_both, places}
 use Rattle.np_fold.specs.Types.{EstateLists, Named, Pod}
 use Rattle.np_fold.specs.Alike.{are_alike, are_same_kind}
-use Rattle.np_fold.specs.Keys.{keys_of_estate, with_keys}
+use Rattle.np_fold.specs.Keys.{keys_of_estate}
+use Rattle.np_labels.specs.Prelude.{distinct}
 use Rattle.np_names.specs.Names.{all_by_name}
 
 -- ---- what a folding is
@@ -120,5 +121,5 @@ folding_of lists = record {
   kinds = map (class_of (kinds_alike lists) (workload_count lists)) (places (workload_count lists));
   kind_count = length (firsts (kinds_alike lists) (workload_count lists));
   first_of_kinds = firsts (kinds_alike lists) (workload_count lists);
-  relevant = with_keys [] (keys_of_estate lists);
+  relevant = distinct (keys_of_estate lists);
 }

@@ -1,5 +1,5 @@
 -- Reading the inputs of a job one after another. For `read_all` and crates above.
-use Rattle.std.proofs.Common.{◌≡◌, ℕ, zero, suc, ◌+◌, ◌^◌, ◌<◌, ◌≤◌, List, [], ◌∷◌, ◌++◌, length, take, drop, get_or, map, Option, Some, None, is_some, IsSome, true, refl, sym, ap, ◌∙◌, subst, inl, inr, arith, Vec, append_assoc, append-nil, add-zero}
+use Rattle.std.proofs.Common.{◌≡◌, ℕ, zero, suc, ◌+◌, ◌^◌, ◌<◌, ◌≤◌, List, [], ◌∷◌, ◌++◌, length, take, drop, get_or, map, Option, Some, None, is_some, IsSome, true, refl, sym, ap, ◌∙◌, subst, inl, inr, arith, Vec, append_assoc, append-nil, add-zero, sum_by}
 use Rattle.std.specs.Prelude.{◌⊎◌, Contains}
 use Rattle.std.specs.Option.{option_map}
 use Rattle.std.specs.declared.alloc.Global.{Global}
@@ -8,7 +8,7 @@ use Rattle.std.proofs.lemmas.List.{get_or_read, length-take-le, map-append, take
 use Rattle.std.proofs.lemmas.List.Elements.{Contains-append_left, Contains-append_right, Contains-get_or}
 use Rattle.std.proofs.lemmas.List.Sums.{sum_by-append, sum_by_more_le}
 use Rattle.np_io.specs.Prelude.{BeganNext, IsTold, Rose, handed_after}
-use Rattle.np_frame.specs.Prelude.{AreTold, BeganFront, FailedAt, HandedOut, NextUnread, SourceTrace, Unread, is_too_large, total_size}
+use Rattle.np_frame.specs.Prelude.{AreTold, BeganFront, FailedAt, HandedOut, NextUnread, SourceTrace, Unread, is_too_large}
 use Rattle.np_frame.specs.declared.sources.TheConstants.{SIZE_LIMIT}
 use Rattle.np_frame.specs.declared.sources.SourceFault.{SourceFault}
 use Rattle.np_frame.specs.declared.sources.SourceFault.TheVariants.{CannotRead, TooLarge, NoMemory}
@@ -46,9 +46,9 @@ bytes_of-more texts made next i below so_far is =
     ∙ ap (λ (bytes : List ℕ). take i texts ++ bytes ∷ []) is
     ∙ sym (take_more texts i [] below)
 
-pub total_size-more : (made : List (Vec ℕ Global)) (next : Vec ℕ Global) → total_size (bytes_of (made ++ next ∷ [])) ≡ total_size (bytes_of made) + length next.items
+pub total_size-more : (made : List (Vec ℕ Global)) (next : Vec ℕ Global) → sum_by length (bytes_of (made ++ next ∷ [])) ≡ sum_by length (bytes_of made) + length next.items
 total_size-more made next =
-    ap total_size (map-append (λ (text : Vec ℕ Global). text.items) made (next ∷ []))
+    ap (sum_by length) (map-append (λ (text : Vec ℕ Global). text.items) made (next ∷ []))
     ∙ sum_by-append length (bytes_of made) (next.items ∷ [])
     ∙ omega arith
 
@@ -66,12 +66,12 @@ past-joined n room limit old mid new whole rose past = elim past [
 ]
 
 -- the inputs so far leave room for fewer bytes than the next one has
-pub is_too_large-told : (texts : List (List ℕ)) (made : List (Vec ℕ Global)) (i room : ℕ) → i < length texts → bytes_of made ≡ take i texts → room + total_size (bytes_of made) ≡ SIZE_LIMIT →
+pub is_too_large-told : (texts : List (List ℕ)) (made : List (Vec ℕ Global)) (i room : ℕ) → i < length texts → bytes_of made ≡ take i texts → room + sum_by length (bytes_of made) ≡ SIZE_LIMIT →
     room < length (get_or texts i []) → is_too_large texts ≡ true
 is_too_large-told texts made i room below so_far counted past =
-    let sizes : total_size (bytes_of made) ≡ total_size (take i texts) = ap total_size so_far in
+    let sizes : sum_by length (bytes_of made) ≡ sum_by length (take i texts) = ap (sum_by length) so_far in
     let more = sum_by_more_le length texts i [] below in
-    lt-ltb SIZE_LIMIT (total_size texts) (omega arith)
+    lt-ltb SIZE_LIMIT (sum_by length texts) (omega arith)
 
 still_some : {X : Type 0} (old new : Option X) → is_some new ≡ is_some old → IsSome old → IsSome new
 still_some None None same is = is
@@ -152,8 +152,8 @@ parted names i name below here =
 pub Unread-next : (source : SourceTrace) (holds_now : List ℕ → Option (List ℕ)) (left_now : Option (List ℕ)) (faults_now : List ℕ → ℕ) (handed_now : ℕ) (began_now : Option (List (List ℕ)))
     (names : List (List ℕ)) (made : List (Vec ℕ Global)) (i room : ℕ) (name : List ℕ) (fault : SourceFault) →
     holds_now ≡ source.holds → is_some left_now ≡ is_some source.left → faults_now ≡ source.faults_before → i < length names → name ≡ get_or names i name →
-    ((texts : List (List ℕ)) → AreTold source.holds source.left names texts → bytes_of made ≡ take i texts) → room + total_size (bytes_of made) ≡ SIZE_LIMIT →
-    RoseBy (total_size (bytes_of made)) source.handed_before handed_now → HandedOut source.handed_before handed_now (total_size (bytes_of made)) →
+    ((texts : List (List ℕ)) → AreTold source.holds source.left names texts → bytes_of made ≡ take i texts) → room + sum_by length (bytes_of made) ≡ SIZE_LIMIT →
+    RoseBy (sum_by length (bytes_of made)) source.handed_before handed_now → HandedOut source.handed_before handed_now (sum_by length (bytes_of made)) →
     BeganNext source.began_before began_now (take i names) → BeganNext began_now source.began_after (name ∷ []) →
     NextUnread (record {
       holds = holds_now;
@@ -190,7 +190,7 @@ Unread-next source holds_now left_now faults_now handed_now began_now names made
       later = drop (i + 1) names;
       order = parted names i name below here;
       began = BeganNext-more source.began_before began_now source.began_after (take i names) (name ∷ []) before after;
-      past = past-joined (total_size (bytes_of made)) room SIZE_LIMIT source.handed_before handed_now source.handed_after counted rose why.0;
+      past = past-joined (sum_by length (bytes_of made)) room SIZE_LIMIT source.handed_before handed_now source.handed_after counted rose why.0;
       most = omega arith;
       unfailed = why.2 ∙ same_faults;
       large = λ texts told.
@@ -198,7 +198,7 @@ Unread-next source holds_now left_now faults_now handed_now began_now names made
           is_too_large-told texts made i room (omega arith) (so_far texts told) counted
           (why.3 (get_or texts i []) (told-next source.holds holds_now source.left left_now names texts i name same_holds same_left below is told));
       fits = λ texts told.
-          let size : total_size (bytes_of made) ≡ total_size (take (length (take i names)) texts) = ap total_size
+          let size : sum_by length (bytes_of made) ≡ sum_by length (take (length (take i names)) texts) = ap (sum_by length)
           (so_far texts told ∙ ap (λ (n : ℕ). take n texts) (sym (length-take-le i names (omega (arith, below))))) in
           omega (arith, size, counted);
     }

@@ -5,5 +5,5 @@ pub use Rattle.np_frame.specs.NoteTexts.{left_out_text, notes_text, route_line}
 unfoldable pub use Rattle.np_frame.specs.NoteTexts.{note}
 pub use Rattle.np_frame.specs.OneLine.{IsOneLine, in_one_line, is_shown}
 unfoldable pub use Rattle.np_frame.specs.OneLine.{one_line}
-pub use Rattle.np_frame.specs.Sources.{AreTold, Began, BeganFront, FailedAt, HandedOut, InRoom, IsUntouched, NamesInput, NextUnread, OverLimit, ReadOnce, SourceTrace, Unread, is_too_large, sourced, total_size}
+pub use Rattle.np_frame.specs.Sources.{AreTold, BeganFront, FailedAt, HandedOut, IsUntouched, NamesInput, NextUnread, OverLimit, ReadOnce, SourceTrace, Unread, is_too_large, sourced}
 pub use Rattle.np_frame.specs.Words.{input_names, inputs_of, names_asked, object_texts, objects_of}

@@ -7,12 +7,8 @@ use Rattle.np_frame.specs.declared.sources.SourceFault.TheVariants.{CannotRead, 
 
 -- ---- what is told
 
--- how many bytes the inputs have together
-abbrev pub total_size : List (List ℕ) → ℕ
-total_size texts = sum_by length texts
-
 abbrev pub is_too_large : List (List ℕ) → Bool
-is_too_large texts = nat_lt SIZE_LIMIT (total_size texts)
+is_too_large texts = nat_lt SIZE_LIMIT (sum_by length texts)
 
 -- the source tells these bytes for these names, one after another
 abbrev pub AreTold : (List ℕ → Option (List ℕ)) → Option (List ℕ) → List (List ℕ) → List (List ℕ) → Type 0
@@ -46,16 +42,12 @@ sourced holds left faults handed began old new = record {
   began_after = began new;
 }
 
--- these names were begun one after another, and no other, where it is told which were
-abbrev pub Began : SourceTrace → List (List ℕ) → Type 0
-Began source names = BeganNext source.began_before source.began_after names
-
 -- names of a list were begun in their order, each once, from the first on: no other name, and none behind the last one
 pub record BeganFront (source : SourceTrace) (names : List (List ℕ)) : Type 0 where
   pub front : List (List ℕ)
   pub rest : List (List ℕ)
   pub order : names ≡ front ++ rest
-  pub began : Began source front
+  pub began : BeganNext source.began_before source.began_after front
 
 -- no call was made
 pub record IsUntouched (source : SourceTrace) : Type 0 where
@@ -68,25 +60,21 @@ pub record HandedOut (old new count : ℕ) : Type 0 where
   pub exact : min new (2 ^ 64 - 1) ≡ min (old + count) (2 ^ 64 - 1)
   pub most : new ≤ old + count
 
--- no more bytes were handed out than inputs may have
-abbrev pub InRoom : SourceTrace → Type 0
-InRoom source = source.handed_after ≤ source.handed_before + SIZE_LIMIT
-
 -- The inputs of these names were read, each once and in its turn: no call failed, no other name was begun, and the bytes
--- that were handed out are those of the texts.
+-- that were handed out are those of the texts, and no more than inputs may have.
 pub record ReadOnce (source : SourceTrace) (names : List (List ℕ)) : Type 0 where
   pub unfailed : source.faults_after ≡ source.faults_before
-  pub began : Began source names
-  pub in_room : InRoom source
-  pub handed : (texts : List (List ℕ)) → AreTold source.holds source.left names texts → HandedOut source.handed_before source.handed_after (total_size texts)
+  pub began : BeganNext source.began_before source.began_after names
+  pub in_room : source.handed_after ≤ source.handed_before + SIZE_LIMIT
+  pub handed : (texts : List (List ℕ)) → AreTold source.holds source.left names texts → HandedOut source.handed_before source.handed_after (sum_by length texts)
 
 -- The reading of the inputs of these names ended at this one, since a call for it failed. It was begun last.
 pub record FailedAt (source : SourceTrace) (names : List (List ℕ)) (name : List ℕ) : Type 0 where
   pub earlier : List (List ℕ)
   pub later : List (List ℕ)
   pub order : names ≡ earlier ++ name ∷ later
-  pub began : Began source (earlier ++ name ∷ [])
-  pub in_room : InRoom source
+  pub began : BeganNext source.began_before source.began_after (earlier ++ name ∷ [])
+  pub in_room : source.handed_after ≤ source.handed_before + SIZE_LIMIT
   pub rose : Rose (source.faults_before name) (source.faults_after name)
 
 -- More bytes were handed out than inputs may have, but at most one piece more, of 8,192 bytes, and no call failed. The input
@@ -96,12 +84,12 @@ pub record OverLimit (source : SourceTrace) (names : List (List ℕ)) : Type 0 w
   pub name : List ℕ
   pub later : List (List ℕ)
   pub order : names ≡ earlier ++ name ∷ later
-  pub began : Began source (earlier ++ name ∷ [])
+  pub began : BeganNext source.began_before source.began_after (earlier ++ name ∷ [])
   pub past : Rose (source.handed_before + SIZE_LIMIT) source.handed_after
   pub most : source.handed_after ≤ source.handed_before + SIZE_LIMIT + 8192
   pub unfailed : source.faults_after ≡ source.faults_before
   pub large : (texts : List (List ℕ)) → AreTold source.holds source.left names texts → is_too_large texts ≡ true
-  pub fits : (texts : List (List ℕ)) → AreTold source.holds source.left names texts → total_size (take (length earlier) texts) ≤ SIZE_LIMIT
+  pub fits : (texts : List (List ℕ)) → AreTold source.holds source.left names texts → sum_by length (take (length earlier) texts) ≤ SIZE_LIMIT
 
 -- why the inputs of these names were not read to their ends
 abbrev pub Unread : SourceTrace → List (List ℕ) → SourceFault → Type 0

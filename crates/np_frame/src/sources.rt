@@ -1,7 +1,7 @@
 //! The bytes of all inputs of a job.
-ghost use Rattle.std.specs.Prelude.{◌≡◌, ◌≤◌, ◌<◌, ℕ, List, [], ◌∷◌, length, map, is_some, IfOk, IfErr, OnOk, IsErrOf};
+ghost use Rattle.std.specs.Prelude.{◌≡◌, ◌≤◌, ◌<◌, ℕ, List, [], ◌∷◌, length, map, is_some, IfOk, IfErr, OnOk, IsErrOf, sum_by};
 ghost use Rattle.np_io.specs.Prelude.{BeganNext, IsTold, Rose, handed_after};
-ghost use Rattle.np_frame.specs.Sources.{AreTold, ReadOnce, Unread, NextUnread, NamesInput, sourced, total_size};
+ghost use Rattle.np_frame.specs.Sources.{AreTold, NamesInput, NextUnread, ReadOnce, Unread, sourced};
 
 use np_base::{NoMemory, Text};
 use np_command::Failure;
@@ -57,7 +57,7 @@ pub fn read_all<I: Inputs>(
 ) -> Result<Vec<Vec<u8>>, SourceFault>
     ensures told { IfOk result (λ made. (texts : List (List ℕ)) →
         AreTold (I.holds inputs.old) (I.left inputs.old) names.now texts → map (λ text. text.items) made.items ≡ texts) }
-    ensures fits { IfOk result (λ made. total_size (map (λ text. text.items) made.items) ≤ SIZE_LIMIT) }
+    ensures fits { IfOk result (λ made. sum_by length (map (λ text. text.items) made.items) ≤ SIZE_LIMIT) }
     ensures once { OnOk result (ReadOnce (sourced I.holds I.left I.faults I.handed I.began inputs.old inputs.new) names.now) }
     ensures err { IfErr result (Unread (sourced I.holds I.left I.faults I.handed I.began inputs.old inputs.new) names.now) }
 {

@@ -6,7 +6,7 @@ use Rattle.std.specs.List.{list_any}
 use Rattle.std.specs.Str.{bytes_eq}
 use Rattle.std.proofs.lemmas.Bool.{and_parts}
 use Rattle.std.proofs.lemmas.Option.{none-some}
-use Rattle.np_routes.specs.Prelude.{Backend, EstateLists, PlacedIngress, ServiceItem, is_in_namespace, is_service, leads_to, routes_in, routes_of_ingress, routes_through, service_named}
+use Rattle.np_routes.specs.Prelude.{Backend, EstateLists, PlacedIngress, ServiceItem, is_service, leads_to, routes_in, routes_of_ingress, routes_through, service_named}
 use Rattle.np_model.specs.declared.ingress.Backend.TheVariants as backend
 use Rattle.np_routes.proofs.AnyLemmas.{list_any-none}
 use Rattle.np_routes.proofs.RouteLemmas.{backend_leads, by_backends, by_ingresses, ingress_leads, list_any-flat_map}
@@ -39,9 +39,9 @@ module _ (lists : EstateLists) (p : PodEnd) (number : ℕ) where
 
   -- nor does such an ingress
   ingress-outside : (placed : PlacedIngress) → list_any (leads_to p number) (routes_of_ingress lists.services placed.ingress) ≡ ingress_leads lists p number placed
-  ingress-outside placed = by (is_in_namespace p.namespace placed) refl
+  ingress-outside placed = by (bytes_eq placed.ingress.namespace p.namespace) refl
     where
-      by : (here : Bool) → is_in_namespace p.namespace placed ≡ here →
+      by : (here : Bool) → bytes_eq placed.ingress.namespace p.namespace ≡ here →
           list_any (leads_to p number) (routes_of_ingress lists.services placed.ingress) ≡ (here && list_any (leads_to p number) (routes_of_ingress lists.services placed.ingress))
       by true is = refl
       by false is = by_backends lists p number placed ∙ list_any-none (backend_leads lists p number placed.ingress.namespace) placed.ingress.backends (backend-outside placed.ingress.namespace is)

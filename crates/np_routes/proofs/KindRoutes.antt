@@ -5,7 +5,7 @@ use Rattle.std.specs.List.{AllByRecursion, find, list_any}
 use Rattle.std.specs.Option.{option_map_or}
 use Rattle.std.specs.Str.{bytes_eq}
 use Rattle.np_base.proofs.Each.{All-parts, All-append}
-use Rattle.np_routes.specs.Prelude.{Backend, EstateLists, Four, Ingress, Named, NamedPort, Number, Pod, PortName, PortSpot, Route, ServiceItem, ServicePort, Tcp, any_controller, ingress_reaches, is_backend_port, is_in_namespace, is_pod_port, is_routed, is_service, is_target, leads_to, may_send, routes_in, routes_of_backend, routes_of_ingress, routes_through, serves, service_named, unlabelled_may_send}
+use Rattle.np_routes.specs.Prelude.{Backend, EstateLists, Four, Ingress, Named, NamedPort, Number, Pod, PortName, PortSpot, Route, ServiceItem, ServicePort, Tcp, any_controller, ingress_reaches, is_backend_port, is_pod_port, is_routed, is_service, is_target, leads_to, may_send, routes_in, routes_of_backend, routes_of_ingress, routes_through, serves, service_named}
 use Rattle.np_conns.specs.Prelude.{same_proto}
 use Rattle.np_model.specs.Prelude.{IsLawful, families_of}
 use Rattle.np_fold.proofs.NamespaceLemmas.{labels_agree}
@@ -17,7 +17,7 @@ use Rattle.np_labels.specs.declared.selector.Selector.{Selector}
 use Rattle.np_labels.proofs.Agreed.{All-from_listed}
 use Rattle.np_model.specs.declared.ingress.Backend.TheVariants as backend
 use Rattle.np_rules.proofs.DeciderLemmas.{decider_says}
-use Rattle.np_rules.specs.Prelude.{Contact, ModelEnd, PodEnd, contact, decider_allows, is_named, no_pod, pod, pod_at, pod_end, stranger_end}
+use Rattle.np_rules.specs.Prelude.{Contact, ModelEnd, PodEnd, contact, decider_allows, is_named, no_pod, pod, pod_at, pod_end, side_allows, stranger_end}
 use Rattle.np_rules.proofs.EachItem.{All-each, All-flat, list_any-same}
 use Rattle.np_kinds.proofs.KindVerdicts.{SameKindEnd-ends, got-same, packet-same}
 use Rattle.np_kinds.proofs.PairLemmas.{pod_there}
@@ -92,7 +92,7 @@ module _ (lists : EstateLists) (p q : PodEnd) (alike : AreServedAlike lists.serv
   routes-same number namespace =
       All-flat_map (LeadsAlike number) (λ placed. routes_of_ingress lists.services placed.ingress)
       (λ placed. All-flat_map (LeadsAlike number) (routes_of_backend lists.services placed.ingress.namespace) (backend-same number placed.ingress.namespace) placed.ingress.backends)
-      (filter (is_in_namespace namespace) lists.ingresses)
+      (filter (λ placed. bytes_eq placed.ingress.namespace namespace) lists.ingresses)
 
   -- the same ports of both are routed
   pub routed-same : (spot : PortSpot) → is_routed lists p spot ≡ is_routed lists q spot
@@ -132,6 +132,9 @@ one_workload-alike lists p q lawful p_in q_in same =
     alike-by lists p q a.0 b.0 lawful a.1 b.1 ((one_workload lists p q a.0 b.0 a.1 b.1).0 same).kind
 
 -- ---- what may be sent
+
+abbrev unlabelled_may_send : EstateLists → PodEnd → PortSpot → Bool
+unlabelled_may_send lists p spot = side_allows lists Ingress p (contact Ingress (pod p) (pod (stranger_end any_controller)) Four spot)
 
 anyone-same : (lists : EstateLists) (p q : PodEnd) (spot : PortSpot) → AreOneKind lists (pod p) (pod q) → unlabelled_may_send lists p spot ≡ unlabelled_may_send lists q spot
 anyone-same lists p q spot kind =

@@ -6,9 +6,10 @@ use Rattle.std.specs.List.{list_any}
 use Rattle.std.proofs.lemmas.Bool.{and_from, and_left, and_parts, false≢true}
 use Rattle.std.proofs.lemmas.List.Folds.{Any-from_list_any, list_any-append, list_any-from_Any}
 use Rattle.np_conns.specs.Prelude.{same_proto}
-use Rattle.np_routes.specs.Prelude.{Backend, EstateLists, LeadsTo, PlacedIngress, PortName, PortSpot, Proto, Sctp, ServiceItem, ServicePort, Tcp, Udp, is_backend_port, is_in_namespace, is_routed, is_target, leads_to, routes_in, routes_of_backend, routes_of_ingress, routes_through, serves, service_named}
+use Rattle.np_routes.specs.Prelude.{Backend, EstateLists, LeadsTo, PlacedIngress, PortName, PortSpot, Proto, Sctp, ServiceItem, ServicePort, Tcp, Udp, is_backend_port, is_routed, is_target, leads_to, routes_in, routes_of_backend, routes_of_ingress, routes_through, serves, service_named}
 use Rattle.np_model.specs.declared.ingress.Backend.TheVariants as backend
 use Rattle.np_rules.specs.Prelude.{PodEnd}
+use Rattle.std.specs.Str.{bytes_eq}
 
 -- ---- lists of which some item passes
 
@@ -56,13 +57,13 @@ module _ (lists : EstateLists) (p : PodEnd) (number : ℕ) where
   backend_leads namespace one = list_any (leads_to p number) (routes_of_backend lists.services namespace one)
 
   abbrev pub ingress_leads : PlacedIngress → Bool
-  ingress_leads placed = is_in_namespace p.namespace placed && list_any (leads_to p number) (routes_of_ingress lists.services placed.ingress)
+  ingress_leads placed = bytes_eq placed.ingress.namespace p.namespace && list_any (leads_to p number) (routes_of_ingress lists.services placed.ingress)
 
   pub by_ingresses : list_any (leads_to p number) (routes_in lists p.namespace) ≡ list_any ingress_leads lists.ingresses
   unfolding routes_in
   by_ingresses =
-      list_any-flat_map (leads_to p number) (λ placed. routes_of_ingress lists.services placed.ingress) (filter (is_in_namespace p.namespace) lists.ingresses)
-      ∙ list_any-filter (λ placed. list_any (leads_to p number) (routes_of_ingress lists.services placed.ingress)) (is_in_namespace p.namespace) lists.ingresses
+      list_any-flat_map (leads_to p number) (λ placed. routes_of_ingress lists.services placed.ingress) (filter (λ placed. bytes_eq placed.ingress.namespace p.namespace) lists.ingresses)
+      ∙ list_any-filter (λ placed. list_any (leads_to p number) (routes_of_ingress lists.services placed.ingress)) (λ placed. bytes_eq placed.ingress.namespace p.namespace) lists.ingresses
 
   pub by_backends : (placed : PlacedIngress) →
       list_any (leads_to p number) (routes_of_ingress lists.services placed.ingress) ≡ list_any (backend_leads placed.ingress.namespace) placed.ingress.backends
@@ -102,7 +103,7 @@ module _ (lists : EstateLists) (p : PodEnd) (number : ℕ) where
   leads-from : list_any (leads_to p number) (routes_in lists p.namespace) ≡ true → LeadsTo lists p number
   leads-from leads =
       let ingress = some_passes ingress_leads lists.ingresses (sym by_ingresses ∙ leads) in
-      let both = and_parts (is_in_namespace p.namespace ingress.0) (list_any (leads_to p number) (routes_of_ingress lists.services ingress.0.ingress)) ingress.2 in
+      let both = and_parts (bytes_eq ingress.0.ingress.namespace p.namespace) (list_any (leads_to p number) (routes_of_ingress lists.services ingress.0.ingress)) ingress.2 in
       let one = some_passes (backend_leads ingress.0.ingress.namespace) ingress.0.ingress.backends (sym (by_backends ingress.0) ∙ both.1) in
       of_backend ingress.0 ingress.1 ((bytes_decides ingress.0.ingress.namespace p.namespace).0 both.0) one.0 one.1 one.2
 

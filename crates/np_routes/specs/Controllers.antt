@@ -16,24 +16,16 @@ use Rattle.np_table.specs.Prelude.{rules_of_pair}
 abbrev pub any_controller : Stranger
 any_controller = record { namespace = record { key = codes "kubernetes.io/metadata.name"; value = [] } ∷ []; labels = [] }
 
--- Whether the pod's own side allows what comes from a pod without labels, in a namespace named "". That pod stands for
--- a controller of which nothing is known. A controller that policies name, by labels or by namespace, is asked about
--- only where `--controller` names it. The pod has no address, so the family changes nothing.
-abbrev pub unlabelled_may_send : EstateLists → PodEnd → PortSpot → Bool
-unlabelled_may_send lists p spot = side_allows lists Ingress p (contact Ingress (pod p) (pod (stranger_end any_controller)) Four spot)
-
--- ---- a controller that is a pod
-
--- whether packets from a pod to another are allowed in some family of the list
-abbrev pub pod_may_send : EstateLists → ℕ → ℕ → PortSpot → Bool
-pod_may_send lists sender receiver spot = list_any (λ family. between_pods lists sender receiver family spot) (families_of lists.pods)
-
 -- ---- what may come to a pod
 
--- whether the controller may send it: the pod at a place, or one that is not known
+-- Whether the controller may send it to the pod at a place: the controller that is a pod, by its place, in some family of the list. Where
+-- none is known, this is whether the pod's own side allows what comes from a pod without labels, in a namespace named "". That pod stands
+-- for a controller of which nothing is known. A controller that policies name, by labels or by namespace, is asked about only where
+-- `--controller` names it. The pod has no address, so the family changes nothing.
 abbrev pub may_send : EstateLists → Option ℕ → ℕ → PortSpot → Bool
-may_send lists None receiver spot = unlabelled_may_send lists (pod_at lists receiver) spot
-may_send lists (Some sender) receiver spot = pod_may_send lists sender receiver spot
+may_send lists None receiver spot =
+    side_allows lists Ingress (pod_at lists receiver) (contact Ingress (pod (pod_at lists receiver)) (pod (stranger_end any_controller)) Four spot)
+may_send lists (Some sender) receiver spot = list_any (λ family. between_pods lists sender receiver family spot) (families_of lists.pods)
 
 -- Whether a TCP port of the pod at a place is reached through ingresses: a route leads to it, and the controller may send to it.
 unfoldable pub ingress_reaches : EstateLists → Option ℕ → ℕ → PortSpot → Bool

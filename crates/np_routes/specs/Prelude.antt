@@ -1,11 +1,11 @@
 -- The definitions and types of this crate that its proofs and the crates above speak of, one import line a file.
 pub use Rattle.np_routes.specs.ClusterTable.{ClusterTable, ClusterToCome, cluster_rows, ingress_key, is_from_controller, is_ingress_controller, rows_from_controller}
 unfoldable pub use Rattle.np_routes.specs.ClusterTable.{all_ingress_rows, cluster_table, ingress_row}
-pub use Rattle.np_routes.specs.Controllers.{Routing, any_controller, ingress_steps, is_controller, may_send, pod_may_send, sender_of, unlabelled_may_send}
+pub use Rattle.np_routes.specs.Controllers.{Routing, any_controller, ingress_steps, is_controller, may_send, sender_of}
 unfoldable pub use Rattle.np_routes.specs.Controllers.{ingress_allows, ingress_reaches}
 pub use Rattle.np_routes.specs.RouteNotes.{backend_flaw, flaw_text, listed_flaw, note_of, notes_of_ingress, route_note_text, serves_none, service_flaw}
 unfoldable pub use Rattle.np_routes.specs.RouteNotes.{notes_of_routes}
-pub use Rattle.np_routes.specs.Routes.{LeadsTo, Route, is_in_namespace, is_routed, leads_to, routes_of_backend, routes_of_ingress, routes_through}
+pub use Rattle.np_routes.specs.Routes.{LeadsTo, Route, is_routed, leads_to, routes_of_backend, routes_of_ingress, routes_through}
 unfoldable pub use Rattle.np_routes.specs.Routes.{routes_in}
 pub use Rattle.np_routes.specs.Services.{is_backend_port, is_named_by, is_pod_port, is_service, is_target, serves, service_named}
 pub use Rattle.np_routes.specs.Types.{AskedService, Backend, Controller, Egress, EstateLists, Family, Four, Ingress, Named, NamedPort, Number, PlacedIngress, Pod, PortName, PortSet, PortSpot, Proto, Row, RowEnd, RowKey, Sctp, Sender, ServiceItem, ServicePort, ServiceTargets, Six, Span, Stranger, Tcp, Udp, Work}

@@ -31,13 +31,9 @@ routes_of_backend services namespace backend.Resource = []
 abbrev pub routes_of_ingress : List ServiceItem → IngressItem → List Route
 routes_of_ingress services ingress = flat_map (routes_of_backend services ingress.namespace) ingress.backends
 
--- whether an ingress is of a namespace
-abbrev pub is_in_namespace : List ℕ → PlacedIngress → Bool
-is_in_namespace namespace placed = bytes_eq placed.ingress.namespace namespace
-
 -- the routes of all ingresses of a namespace
 unfoldable pub routes_in : EstateLists → List ℕ → List Route
-routes_in lists namespace = flat_map (λ placed. routes_of_ingress lists.services placed.ingress) (filter (is_in_namespace namespace) lists.ingresses)
+routes_in lists namespace = flat_map (λ placed. routes_of_ingress lists.services placed.ingress) (filter (λ placed. bytes_eq placed.ingress.namespace namespace) lists.ingresses)
 
 -- whether some route leads to the TCP port of a pod
 abbrev pub is_routed : EstateLists → PodEnd → PortSpot → Bool

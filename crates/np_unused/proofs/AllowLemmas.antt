@@ -2,7 +2,7 @@
 use Rattle.std.proofs.Common.{◌≡◌, ℕ, Bool, true, false, ◌&&◌, ◌==◌, Some, refl, sym, ap, ◌∙◌, subst}
 use Rattle.std.specs.List.{Contains}
 use Rattle.std.proofs.lemmas.Bool.{and_parts, eqb-true, false≢true}
-use Rattle.np_unused.specs.Prelude.{Admin, At, Base, Direction, Egress, End, EstateLists, Family, Ingress, IsListedPacket, Net, Pod, PortSpot, RuleRef, Tier, goes, ref_of, rule_in, rule_name, same_direction, same_ref, same_tier, unused_of, without}
+use Rattle.np_unused.specs.Prelude.{Admin, At, Base, Direction, Egress, End, EstateLists, Family, Ingress, IsListedPacket, Net, Pod, PortSpot, RuleRef, Tier, direction_number, goes, ref_of, rule_in, rule_name, same_ref, tier_number, unused_of, without}
 use Rattle.np_model.specs.Prelude.{IsLawful}
 use Rattle.np_explain.specs.Prelude.{decider_between, packet_between}
 use Rattle.np_unused.proofs.ChangeLemmas.{Stays, side_same}
@@ -12,7 +12,7 @@ use Rattle.np_rules.specs.Prelude.{allows, contact_of, end_allows, end_of, pod_a
 
 -- ---- one rule
 
-tier_same : (a b : Tier) → same_tier a b ≡ true → a ≡ b
+tier_same : (a b : Tier) → (tier_number a == tier_number b) ≡ true → a ≡ b
 tier_same Admin Admin same = refl
 tier_same Net Net same = refl
 tier_same Base Base same = refl
@@ -23,7 +23,7 @@ tier_same Net Base same = absurd (false≢true same)
 tier_same Base Admin same = absurd (false≢true same)
 tier_same Base Net same = absurd (false≢true same)
 
-direction_same : (a b : Direction) → same_direction a b ≡ true → a ≡ b
+direction_same : (a b : Direction) → (direction_number a == direction_number b) ≡ true → a ≡ b
 direction_same Ingress Ingress same = refl
 direction_same Egress Egress same = refl
 direction_same Ingress Egress same = absurd (false≢true same)
@@ -31,9 +31,9 @@ direction_same Egress Ingress same = absurd (false≢true same)
 
 ref_same : (a b : RuleRef) → same_ref a b ≡ true → a ≡ b
 ref_same a b same =
-    let front = and_parts (same_tier a.tier b.tier && a.policy == b.policy && same_direction a.direction b.direction) (a.place == b.place) same in
-    let middle = and_parts (same_tier a.tier b.tier && a.policy == b.policy) (same_direction a.direction b.direction) front.0 in
-    let first = and_parts (same_tier a.tier b.tier) (a.policy == b.policy) middle.0 in
+    let front = and_parts (tier_number a.tier == tier_number b.tier && a.policy == b.policy && direction_number a.direction == direction_number b.direction) (a.place == b.place) same in
+    let middle = and_parts (tier_number a.tier == tier_number b.tier && a.policy == b.policy) (direction_number a.direction == direction_number b.direction) front.0 in
+    let first = and_parts (tier_number a.tier == tier_number b.tier) (a.policy == b.policy) middle.0 in
     let of_tier : Tier → RuleRef = λ t. record { tier = t; policy = a.policy; direction = a.direction; place = a.place } in
     let of_policy : ℕ → RuleRef = λ n. record { tier = b.tier; policy = n; direction = a.direction; place = a.place } in
     let of_direction : Direction → RuleRef = λ d. record { tier = b.tier; policy = b.policy; direction = d; place = a.place } in

@@ -1,10 +1,10 @@
 -- Where the rules that decide stay, a side says the same. For AllowLemmas.
-use Rattle.std.proofs.Common.{◌≡◌, ℕ, ◌<◌, List, [], Bool, true, false, not, map, filter, find, is_some, slice_get, Option, Some, None, refl, sym, ap, ◌∙◌, subst, if◌then◌else◌}
+use Rattle.std.proofs.Common.{◌≡◌, ℕ, ◌<◌, List, [], Bool, true, false, not, map, filter, find, is_some, slice_get, Option, Some, None, refl, sym, ap, ◌∙◌, subst, if◌then◌else◌, length, unwrap_or}
 use Rattle.std.specs.List.{enumerate_from, list_any}
 use Rattle.std.specs.Option.{option_map, option_map_or}
 use Rattle.np_tiers.proofs.Verdicts.{whole_stands}
 use Rattle.np_model.specs.Prelude.{IsLawful}
-use Rattle.np_unused.specs.Prelude.{AdminPolicy, AdminRule, BasePolicy, Decider, Direction, EstateLists, NetPolicy, NetRule, RuleName, RuleRef, Tier, admin_count, admin_rule_in, admin_without, base_rule_in, base_without, goes, net_count, net_rule_in, net_without, ref_of, rule_count_at, rule_in, rule_name, without}
+use Rattle.np_unused.specs.Prelude.{AdminPolicy, AdminRule, BasePolicy, Decider, Direction, EstateLists, NetPolicy, NetRule, RuleName, RuleRef, Tier, admin_without, base_without, goes, net_without, ref_of, rule_count_at, rule_in, rule_name, without}
 use Rattle.np_explain.proofs.RuleLemmas.{net_decider_is_first}
 use Rattle.np_unused.proofs.StayLemmas.{any_found, any_map, find_map, first_stays}
 use Rattle.np_unused.proofs.WithoutLemmas.{IsAdminAt, IsBaseAt, IsNetAt, admin_are, admin_from, admin_left, admin_placed, admin_stays, ascending_left, base_are, base_from, base_left, base_placed, base_stays, isolated_left, net_are, net_from, net_left, net_placed, net_stays, spaced}
@@ -13,7 +13,7 @@ use Rattle.np_model.specs.declared.admin_policy.Action.{Action}
 use Rattle.np_model.specs.declared.admin_policy.Action.TheVariants.{Allow, Deny, Pass}
 use Rattle.np_rules.proofs.AdminTierLemmas.{decider_is_first}
 use Rattle.np_rules.proofs.PairwiseLemmas.{map-map}
-use Rattle.np_rules.specs.Prelude.{Contact, PlacedAdminRule, PlacedBaseRule, PlacedNetRule, PodEnd, action_decides, action_says, admin_decider, admin_decides, admin_places, admin_rule_matches, admin_rule_name, admin_says, base_decider, base_decides, base_places, base_says, decider, is_allow, is_isolated, isolating_names, lower_allows, lower_decider, net_decider, net_decides, net_places, net_policy_name, net_rule_matches, net_rule_name, permits, placed_net_matches, pod, side_allows}
+use Rattle.np_rules.specs.Prelude.{Contact, PlacedAdminRule, PlacedBaseRule, PlacedNetRule, PodEnd, action_decides, action_says, admin_decider, admin_decides, admin_places, admin_rule_matches, admin_rule_name, admin_rules_of, admin_says, base_decider, base_decides, base_places, base_says, decider, is_allow, is_isolated, isolating_names, lower_allows, lower_decider, net_decider, net_decides, net_places, net_policy_name, net_rule_matches, net_rule_name, net_rules_of, permits, placed_net_matches, pod, side_allows}
 use Rattle.np_explain.proofs.NamedLemmas.{of_found}
 
 -- ---- what rules say
@@ -43,29 +43,29 @@ choose_same false true x' x y' y same yes_same no_same = cc
 -- ---- the rules in what decides
 
 module _ (lists : EstateLists) (direction : Direction) (p : PodEnd) (contact : Contact) where
-  net_admin : (pass : Option RuleName) (found : Option PlacedNetRule) → admin_rule_in (net_decides pass (isolating_names lists.net_policies direction p) found) ≡ pass
+  net_admin : (pass : Option RuleName) (found : Option PlacedNetRule) → rule_in tier.Admin (net_decides pass (isolating_names lists.net_policies direction p) found) ≡ pass
   net_admin pass None = refl
   net_admin pass (Some placed) = refl
 
-  base_admin : (pass : Option RuleName) (found : Option PlacedBaseRule) → admin_rule_in (base_decides pass found) ≡ pass
+  base_admin : (pass : Option RuleName) (found : Option PlacedBaseRule) → rule_in tier.Admin (base_decides pass found) ≡ pass
   base_admin pass None = refl
   base_admin pass (Some placed) = refl
 
-  lower_in : (pass : Option RuleName) → admin_rule_in (lower_decider lists direction p contact pass) ≡ pass
+  lower_in : (pass : Option RuleName) → rule_in tier.Admin (lower_decider lists direction p contact pass) ≡ pass
   lower_in pass = go (is_isolated lists.net_policies direction p)
     where
       go : (b : Bool) →
-          admin_rule_in (if b then net_decides pass (isolating_names lists.net_policies direction p) (net_decider lists.net_policies direction p contact) else base_decides pass
+          rule_in tier.Admin (if b then net_decides pass (isolating_names lists.net_policies direction p) (net_decider lists.net_policies direction p contact) else base_decides pass
           (base_decider lists.baseline direction p contact)) ≡ pass
       go true = net_admin pass (net_decider lists.net_policies direction p contact)
       go false = base_admin pass (base_decider lists.baseline direction p contact)
 
-  action_in : (action : Action) (rule : RuleName) → admin_rule_in (action_decides action rule (lower_decider lists direction p contact)) ≡ Some rule
+  action_in : (action : Action) (rule : RuleName) → rule_in tier.Admin (action_decides action rule (lower_decider lists direction p contact)) ≡ Some rule
   action_in Allow rule = refl
   action_in Deny rule = refl
   action_in Pass rule = lower_in (Some rule)
 
-  admin_in : (found : Option PlacedAdminRule) → admin_rule_in (admin_decides found (lower_decider lists direction p contact)) ≡ option_map admin_rule_name found
+  admin_in : (found : Option PlacedAdminRule) → rule_in tier.Admin (admin_decides found (lower_decider lists direction p contact)) ≡ option_map admin_rule_name found
   admin_in None = lower_in None
   admin_in (Some placed) = action_in placed.rule.action (admin_rule_name placed)
 
@@ -109,7 +109,7 @@ module _ (lists : EstateLists) (lawful : IsLawful lists) (gone : List RuleRef) (
   admin_first_stays stays x found =
       let at = of_found (IsAdminAt gone direction p lists.admin_policies) admin_test admins
       (admin_are gone direction p lists.admin_policies 0 lists.admin_policies (whole_stands lists.admin_policies)) x found in
-      let count : Option AdminPolicy → ℕ = λ one. option_map_or (admin_count direction) one 0 in
+      let count : Option AdminPolicy → ℕ = λ one. option_map_or (λ policy. length (admin_rules_of direction policy)) one 0 in
       let valid : x.1.place < rule_count_at lists tier.Admin direction x.0 = subst (λ (n : ℕ). x.1.place < n) (sym (ap count at.0)) at.1 in
       let decides : admin_decider lists.admin_policies direction p contact ≡ Some x.1 = admin_found ∙ ap (option_map (λ y. y.1)) found in
       let stands = admin_in lists direction p contact (admin_decider lists.admin_policies direction p contact) ∙ ap (option_map admin_rule_name) decides in
@@ -162,14 +162,14 @@ module _ (lists : EstateLists) (lawful : IsLawful lists) (gone : List RuleRef) (
   unfolding Stays
   net_first_stays stays pass lower isolated x found =
       let at = of_found (IsNetAt gone direction p lists.net_policies) net_test nets (net_are gone direction p lists.net_policies 0 lists.net_policies (whole_stands lists.net_policies)) x found in
-      let count : Option NetPolicy → ℕ = λ one. option_map_or (net_count direction) one 0 in
+      let count : Option NetPolicy → ℕ = λ one. option_map_or (λ policy. length (unwrap_or (net_rules_of direction policy) [])) one 0 in
       let valid : x.1.place < rule_count_at lists tier.Net direction x.0 = subst (λ (n : ℕ). x.1.place < n) (sym (ap count at.0)) at.1 in
       let decides : net_decider lists.net_policies direction p contact ≡ Some x.1 = net_found ∙ ap (option_map (λ y. y.1)) found in
       let by : Bool → Decider = λ b. if b then net_decides pass (isolating_names lists.net_policies direction p) (net_decider lists.net_policies direction p contact) else base_decides pass
       (base_decider lists.baseline direction p contact) in
       let here : decider lists direction (pod p) contact ≡ net_decides pass (isolating_names lists.net_policies direction p) (Some x.1) = lower ∙ ap by isolated ∙ ap
       (net_decides pass (isolating_names lists.net_policies direction p)) decides in
-      ap not (stays tier.Net x.0 x.1.place valid (ap net_rule_in here ∙ ap {A = RuleName} Some (sym (net_name x.1.place (slice_get lists.net_policies x.0) x.1 at.0 refl))))
+      ap not (stays tier.Net x.0 x.1.place valid (ap (rule_in tier.Net) here ∙ ap {A = RuleName} Some (sym (net_name x.1.place (slice_get lists.net_policies x.0) x.1 at.0 refl))))
 
   permits_spaced : (policies : List NetPolicy) → permits policies direction p contact ≡ list_any spaced_test (map spaced (net_places policies direction p))
   permits_spaced policies = sym (any_map spaced spaced_test (net_places policies direction p))
@@ -209,7 +209,7 @@ module _ (lists : EstateLists) (lawful : IsLawful lists) (gone : List RuleRef) (
       let by : Bool → Decider = λ b. if b then net_decides pass (isolating_names lists.net_policies direction p) (net_decider lists.net_policies direction p contact) else base_decides pass
       (base_decider lists.baseline direction p contact) in
       let here : decider lists direction (pod p) contact ≡ base_decides pass (Some x.1) = lower ∙ ap by free ∙ ap (base_decides pass) decides in
-      ap not (stays tier.Base x.0 x.1.place valid (ap base_rule_in here))
+      ap not (stays tier.Base x.0 x.1.place valid (ap (rule_in tier.Base) here))
 
   base_rule_found : (baseline : Option BasePolicy) →
       option_map (λ placed. placed.rule) (base_decider baseline direction p contact) ≡ find matches (map (λ placed. placed.rule) (base_places baseline direction p))

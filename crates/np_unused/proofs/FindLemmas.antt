@@ -7,11 +7,11 @@ use Rattle.std.proofs.lemmas.Bool.Decides.{eqb_tells, nat_tests}
 use Rattle.std.proofs.lemmas.Option.{same_Some}
 use Rattle.np_addr.specs.Prelude.{IsAddress, family_of}
 use Rattle.np_addr.specs.declared.address.Address.{Address}
-use Rattle.np_unused.specs.Prelude.{AllAreUsed, AreKindPods, AreUsed, At, Direction, End, EstateLists, Family, Finds, Four, IsListedEnd, IsSound, KindPod, Knows, KnowsPods, KnowsSide, KnowsSides, Pod, PodsAreUsed, PortSpot, Six, Tier, UsedRules, is_asked, is_known, is_used, packet_families, pod_kind, ref_of, rule_count_at, stands_in}
+use Rattle.np_unused.specs.Prelude.{AllAreUsed, AreKindPods, AreUsed, At, Direction, End, EstateLists, Family, Finds, Four, IsListedEnd, IsSound, KindPod, Knows, KnowsPods, KnowsSide, KnowsSides, Pod, PodsAreUsed, PortSpot, Six, Tier, UsedRules, is_asked, is_known, is_used, pod_kind, ref_of, rule_count_at, stands_in}
 use Rattle.np_base.specs.declared.beside.Which.TheVariants.{First, Second}
 use Rattle.np_conns.specs.Prelude.{is_spot}
 use Rattle.np_model.specs.Prelude.{IsLawful, families_of}
-use Rattle.np_explain.specs.Prelude.{are_one_pod, decider_near}
+use Rattle.np_explain.specs.Prelude.{are_one_pod, decider_near, packet_families}
 use Rattle.np_unused.proofs.KindPodLemmas.{StandsFor, kind_pod, own_kind}
 use Rattle.np_unused.proofs.PacketLemmas.{near_used, used_near}
 use Rattle.np_rules.proofs.AddressLemmas.{place_parts}

@@ -1,5 +1,5 @@
 -- The rules that a mark names are those that stand in what decides. For SearchLemmas.
-use Rattle.std.proofs.Common.{◌≡◌, ℕ, zero, suc, ◌<◌, List, [], ◌∷◌, Bool, true, false, ◌&&◌, ◌==◌, codes, map, Option, Some, None, eq-eqb, refl, sym, ap, ◌∙◌, arith, if◌then◌else◌}
+use Rattle.std.proofs.Common.{◌≡◌, ℕ, zero, suc, ◌<◌, List, [], ◌∷◌, Bool, true, false, ◌&&◌, ◌==◌, codes, map, Option, Some, None, eq-eqb, refl, sym, ap, ◌∙◌, arith, if◌then◌else◌, length, unwrap_or}
 use Rattle.std.specs.Cmp.{both_ways}
 use Rattle.std.specs.List.{list_all, slice_get}
 use Rattle.std.specs.Option.{option_and_then, option_map, option_map_or}
@@ -8,12 +8,12 @@ use Rattle.std.proofs.lemmas.Bool.{and_parts, eqb-true, false≢true}
 use Rattle.std.proofs.lemmas.Option.{slice_get-map}
 use Rattle.std.proofs.lemmas.Slice.Eq.{bytes_eq-Decides}
 use Rattle.np_model.specs.Prelude.{IsLawful}
-use Rattle.np_unused.specs.Prelude.{AdminPolicy, AreRulesOf, Decider, Direction, EstateLists, LayerRules, Mark, NetPolicy, RuleId, RuleName, Tier, admin_count, admin_rule_in, base_count, base_rule_in, ids_of, is_id, is_met, net_count, net_rule_in, place_in, policy_name_at, rule_count_at, rule_in}
+use Rattle.np_unused.specs.Prelude.{AdminPolicy, AreRulesOf, Decider, Direction, EstateLists, LayerRules, Mark, NetPolicy, RuleId, RuleName, Tier, ids_of, is_id, is_met, place_in, policy_name_at, rule_count_at, rule_in}
 use Rattle.np_explain.proofs.PlaceLemmas.{at_place}
 use Rattle.np_explain.specs.Prelude.{IsMarkOf, admin_rules, base_rules, mark_decider, net_rules, pass_name, same_rule}
 use Rattle.np_unused.proofs.PolicyLemmas.{one_admin_policy, one_net_policy, passes_at}
 use Rattle.np_unused.specs.declared.rule_ref.Tier.TheVariants as tier
-use Rattle.np_rules.specs.Prelude.{NamesAdmin, NamesBase, NamesNet, Pairwise, PlacedAdminRule, PlacedBaseRule, PlacedNetRule, PodSide, admin_rule_name, base_rule_name, is_allow, net_policy_name, net_rule_name}
+use Rattle.np_rules.specs.Prelude.{NamesAdmin, NamesBase, NamesNet, Pairwise, PlacedAdminRule, PlacedBaseRule, PlacedNetRule, PodSide, admin_rule_name, admin_rules_of, base_rule_name, base_rules_of, is_allow, net_policy_name, net_rule_name, net_rules_of}
 use Rattle.np_rules.specs.declared.decider.Decider.TheVariants as decider
 use Rattle.np_tiers.specs.declared.mark.Mark.TheVariants as mark
 use Rattle.np_base.proofs.Options.{some_is}
@@ -36,18 +36,18 @@ pass_met side (Some place) = sym (slice_get-map admin_rule_name (admin_rules sid
 
 -- ---- what decides at a mark
 
-admin_of : {X : Type 0} (give : X → Decider) (name : X → Option RuleName) → ((x : X) → admin_rule_in (give x) ≡ name x) → (found : Option X) →
-    admin_rule_in (option_map_or give found decider.NoSide) ≡ option_and_then name found
+admin_of : {X : Type 0} (give : X → Decider) (name : X → Option RuleName) → ((x : X) → rule_in tier.Admin (give x) ≡ name x) → (found : Option X) →
+    rule_in tier.Admin (option_map_or give found decider.NoSide) ≡ option_and_then name found
 admin_of give name gives None = refl
 admin_of give name gives (Some x) = gives x
 
-net_of : {X : Type 0} (give : X → Decider) (name : X → Option RuleName) → ((x : X) → net_rule_in (give x) ≡ name x) → (found : Option X) →
-    net_rule_in (option_map_or give found decider.NoSide) ≡ option_and_then name found
+net_of : {X : Type 0} (give : X → Decider) (name : X → Option RuleName) → ((x : X) → rule_in tier.Net (give x) ≡ name x) → (found : Option X) →
+    rule_in tier.Net (option_map_or give found decider.NoSide) ≡ option_and_then name found
 net_of give name gives None = refl
 net_of give name gives (Some x) = gives x
 
-base_of : {X : Type 0} (give : X → Decider) (name : X → Option RuleName) → ((x : X) → base_rule_in (give x) ≡ name x) → (found : Option X) →
-    base_rule_in (option_map_or give found decider.NoSide) ≡ option_and_then name found
+base_of : {X : Type 0} (give : X → Decider) (name : X → Option RuleName) → ((x : X) → rule_in tier.Base (give x) ≡ name x) → (found : Option X) →
+    rule_in tier.Base (option_map_or give found decider.NoSide) ≡ option_and_then name found
 base_of give name gives None = refl
 base_of give name gives (Some x) = gives x
 
@@ -78,10 +78,10 @@ module _ (side : PodSide) where
       admin_of admin_gives (λ placed. Some (admin_rule_name placed)) (λ placed. refl) (slice_get (admin_rules side) place)
       ∙ named_of admin_rule_name (slice_get (admin_rules side) place) ∙ sym (slice_get-map admin_rule_name (admin_rules side) place)
   mark_rule tier.Admin (mark.Net pass place) there =
-      at_place (λ d. admin_rule_in d ≡ name_met side tier.Admin pass) (net_gives pass) decider.NoSide (net_rules side) place there.1 (λ placed is. pass_met side pass)
+      at_place (λ d. rule_in tier.Admin d ≡ name_met side tier.Admin pass) (net_gives pass) decider.NoSide (net_rules side) place there.1 (λ placed is. pass_met side pass)
   mark_rule tier.Admin (mark.Isolated pass) there = pass_met side pass
   mark_rule tier.Admin (mark.Base pass place) there =
-      at_place (λ d. admin_rule_in d ≡ name_met side tier.Admin pass) (base_gives pass) decider.NoSide (base_rules side) place there.1 (λ placed is. pass_met side pass)
+      at_place (λ d. rule_in tier.Admin d ≡ name_met side tier.Admin pass) (base_gives pass) decider.NoSide (base_rules side) place there.1 (λ placed is. pass_met side pass)
   mark_rule tier.Admin (mark.Free pass) there = pass_met side pass
   mark_rule tier.Net (mark.Admin place) there = net_of admin_gives (λ placed. None) (λ placed. refl) (slice_get (admin_rules side) place) ∙ none_of (slice_get (admin_rules side) place)
   mark_rule tier.Net (mark.Net pass place) there =
@@ -113,7 +113,7 @@ module _ (lists : EstateLists) (lawful : IsLawful lists) (direction : Direction)
       is_id policy place id ≡ same_rule (name_at tier.Admin) (admin_rule_name placed)
   admin_id id placed valid named = go (slice_get lists.admin_policies policy) refl valid
     where
-      go : (found : Option AdminPolicy) → slice_get lists.admin_policies policy ≡ found → place < option_map_or (admin_count direction) found 0 →
+      go : (found : Option AdminPolicy) → slice_get lists.admin_policies policy ≡ found → place < option_map_or (λ policy. length (admin_rules_of direction policy)) found 0 →
           is_id policy place id ≡ (bytes_eq (option_map_or (λ one. one.name) found []) placed.policy.name && place == placed.place)
       go None is below = absurd (omega arith)
       go (Some one) is below =
@@ -128,7 +128,7 @@ module _ (lists : EstateLists) (lawful : IsLawful lists) (direction : Direction)
       is_id policy place id ≡ same_rule (name_at tier.Net) (net_rule_name placed)
   net_id id placed valid named = go (slice_get lists.net_policies policy) refl valid
     where
-      go : (found : Option NetPolicy) → slice_get lists.net_policies policy ≡ found → place < option_map_or (net_count direction) found 0 →
+      go : (found : Option NetPolicy) → slice_get lists.net_policies policy ≡ found → place < option_map_or (λ policy. length (unwrap_or (net_rules_of direction policy) [])) found 0 →
           is_id policy place id ≡ (bytes_eq (option_map_or net_policy_name found []) (net_policy_name placed.policy) && place == placed.place)
       go None is below = absurd (omega arith)
       go (Some one) is below =
@@ -144,7 +144,7 @@ module _ (lists : EstateLists) (lawful : IsLawful lists) (direction : Direction)
       is_id policy place id ≡ same_rule (name_at tier.Base) (base_rule_name placed)
   base_id id placed valid named = go (policy == 0) refl valid
     where
-      go : (first : Bool) → policy == 0 ≡ first → place < (if first then option_map_or (base_count direction) lists.baseline 0 else 0) →
+      go : (first : Bool) → policy == 0 ≡ first → place < (if first then option_map_or (λ policy. length (base_rules_of direction policy)) lists.baseline 0 else 0) →
           is_id policy place id ≡ (bytes_eq (codes "default") (codes "default") && place == placed.place)
       go true is below =
           both_agree (policy == id.policy) (bytes_eq (codes "default") (codes "default")) id.place placed.place

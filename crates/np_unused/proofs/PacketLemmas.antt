@@ -6,10 +6,10 @@ use Rattle.std.proofs.lemmas.Bool.Decides.{nat_tests}
 use Rattle.std.proofs.lemmas.List.Elements.{All-append, All-contains, Contains-append_left, Contains-append_right}
 use Rattle.std.proofs.lemmas.List.Folds.{Any-from_list_any, list_any_at}
 use Rattle.std.proofs.lemmas.List.FromFn.{get_or-map-range_with_len, length-map-range_with_len}
-use Rattle.np_unused.specs.Prelude.{At, Direction, Egress, End, EstateLists, Family, Four, Ingress, IsListedEnd, IsListedPacket, NoSide, Pod, PortSpot, RuleRef, Six, Tier, four_ends, is_used, is_used_between, is_used_in, listed_ends, packet_families, pod_ends, ref_of, six_ends, stands_in}
+use Rattle.np_unused.specs.Prelude.{At, Direction, Egress, End, EstateLists, Family, Four, Ingress, IsListedEnd, IsListedPacket, NoSide, Pod, PortSpot, RuleRef, Six, Tier, four_ends, is_used, is_used_between, is_used_in, listed_ends, pod_ends, ref_of, six_ends, stands_in}
 use Rattle.np_conns.specs.Prelude.{is_spot}
 use Rattle.np_explain.proofs.SpotLemmas.{all_spots-are_spots, all_spots-has}
-use Rattle.np_explain.specs.Prelude.{all_spots, are_one_pod, decider_between, decider_near}
+use Rattle.np_explain.specs.Prelude.{all_spots, are_one_pod, decider_between, decider_near, packet_families}
 use Rattle.np_unused.specs.declared.rule_ref.Tier.TheVariants as tier
 
 -- ---- tests of lists

@@ -5,7 +5,7 @@ use Rattle.std.specs.List.{list_any}
 use Rattle.std.specs.Option.{option_map, option_map_or}
 use Rattle.std.proofs.lemmas.Bool.{false≢true, not-false, or_parts}
 use Rattle.std.proofs.lemmas.Option.{slice_get-get_or, slice_get-map, slice_get_within}
-use Rattle.np_unused.specs.Prelude.{AreKindPods, AreKinds, AreRulesOf, Decider, Direction, EstateLists, Family, IsSearch, IsSearchOf, KindPod, Kinds, Knows, KnowsAll, KnowsKind, KnowsSide, LayerRules, RuleName, Search, Searched, UsedRules, are_known, base_rule_in, is_asked, may_tell, net_rule_in, ref_of, rule_name}
+use Rattle.np_unused.specs.Prelude.{AreKindPods, AreKinds, AreRulesOf, Decider, Direction, EstateLists, Family, IsSearch, IsSearchOf, KindPod, Kinds, Knows, KnowsAll, KnowsKind, KnowsSide, LayerRules, RuleName, Search, Searched, UsedRules, are_known, is_asked, may_tell, ref_of, rule_in, rule_name}
 use Rattle.np_conns.specs.Prelude.{is_spot}
 use Rattle.np_model.specs.Prelude.{IsLawful}
 use Rattle.np_explain.specs.Prelude.{same_rule}
@@ -68,10 +68,10 @@ quiet_known side lawful rules are used all far family out spot inside tier.Admin
     knows_admin side lawful rules are used all (with_pod far family side spot) policy place valid stands
 quiet_known side lawful rules are used all far family out spot inside tier.Net policy place valid stands =
     absurd (false≢true (sym (ap (λ (found : Option RuleName). option_map_or (same_rule (rule_name side.lists (ref_of side.direction tier.Net policy place))) found false)
-    (no_rule side.lists side.direction (near_pod side) (with_pod far family side spot) out net_rule_in (λ rule allow. refl) (λ pass names. refl))) ∙ stands))
+    (no_rule side.lists side.direction (near_pod side) (with_pod far family side spot) out rule_in tier.Net (λ rule allow. refl) (λ pass names. refl))) ∙ stands))
 quiet_known side lawful rules are used all far family out spot inside tier.Base policy place valid stands =
     absurd (false≢true (sym (ap (λ (found : Option RuleName). option_map_or (same_rule (rule_name side.lists (ref_of side.direction tier.Base policy place))) found false)
-    (no_rule side.lists side.direction (near_pod side) (with_pod far family side spot) out base_rule_in (λ rule allow. refl) (λ pass names. refl))) ∙ stands))
+    (no_rule side.lists side.direction (near_pod side) (with_pod far family side spot) out rule_in tier.Base (λ rule allow. refl) (λ pass names. refl))) ∙ stands))
 
 -- a kind that tells of nothing may be passed over
 pub quiet_kind : (search : Search) → IsSearch search → (used : UsedRules) (kind : ℕ) (far : KindPod) → slice_get search.kinds.pods.now kind ≡ Some far → may_tell search used kind far ≡ false →

@@ -1,5 +1,5 @@
 -- All rules of an estate, and those that are not used. For `unused_rules`.
-use Rattle.std.proofs.Common.{◌≡◌, ℕ, zero, suc, ◌<◌, List, [], ◌∷◌, ◌++◌, Bool, true, false, ◌==◌, not, map, filter, length, get_or, slice_get, Option, Some, None, All, refl, sym, ap, ◌∙◌, subst, arith, if◌then◌else◌}
+use Rattle.std.proofs.Common.{◌≡◌, ℕ, zero, suc, ◌<◌, List, [], ◌∷◌, ◌++◌, Bool, true, false, ◌==◌, not, map, filter, length, get_or, slice_get, Option, Some, None, All, refl, sym, ap, ◌∙◌, subst, arith, if◌then◌else◌, unwrap_or}
 use Rattle.std.specs.List.{Contains, flat_map, range_with_len}
 use Rattle.std.specs.Option.{option_map_or}
 use Rattle.std.proofs.lemmas.Bool.{eqb-true}
@@ -7,7 +7,8 @@ use Rattle.std.proofs.lemmas.List.Elements.{All-append, All-nil, Contains-append
 use Rattle.std.proofs.lemmas.List.FromFn.{get_or-map-range_with_len, get_or-range_with_len, length-map-range_with_len, length-range_with_len}
 use Rattle.std.proofs.lemmas.Option.{slice_get_within}
 use Rattle.np_classes.proofs.Lists.{filter_agree_on}
-use Rattle.np_unused.specs.Prelude.{Admin, AdminPolicy, Base, Direction, Egress, EstateLists, Finds, Ingress, IsRuleOf, Net, NetPolicy, Tier, UsedRules, admin_count, all_rules, base_count, is_known_by, is_used, net_count, policy_count, rule_count_at, rules_from, rules_of_policy, rules_of_tier, unused_of}
+use Rattle.np_unused.specs.Prelude.{Admin, AdminPolicy, Base, Direction, Egress, EstateLists, Finds, Ingress, IsRuleOf, Net, NetPolicy, Tier, UsedRules, all_rules, is_known_by, is_used, policy_count, rule_count_at, rules_from, rules_of_policy, rules_of_tier, unused_of}
+use Rattle.np_rules.specs.Prelude.{admin_rules_of, base_rules_of, net_rules_of}
 
 -- ---- lists
 
@@ -55,15 +56,15 @@ module _ (lists : EstateLists) where
   pub policy_within : (tier : Tier) (policy : ℕ) (direction : Direction) (place : ℕ) → place < rule_count_at lists tier direction policy → policy < policy_count lists tier
   policy_within Admin policy direction place below = go (slice_get lists.admin_policies policy) refl below
     where
-      go : (found : Option AdminPolicy) → slice_get lists.admin_policies policy ≡ found → place < option_map_or (admin_count direction) found 0 → policy < length lists.admin_policies
+      go : (found : Option AdminPolicy) → slice_get lists.admin_policies policy ≡ found → place < option_map_or (λ policy. length (admin_rules_of direction policy)) found 0 → policy < length lists.admin_policies
       go None is none = absurd (omega arith)
       go (Some one) is some = slice_get_within lists.admin_policies policy one is
   policy_within Net policy direction place below = go (slice_get lists.net_policies policy) refl below
     where
-      go : (found : Option NetPolicy) → slice_get lists.net_policies policy ≡ found → place < option_map_or (net_count direction) found 0 → policy < length lists.net_policies
+      go : (found : Option NetPolicy) → slice_get lists.net_policies policy ≡ found → place < option_map_or (λ policy. length (unwrap_or (net_rules_of direction policy) [])) found 0 → policy < length lists.net_policies
       go None is none = absurd (omega arith)
       go (Some one) is some = slice_get_within lists.net_policies policy one is
-  policy_within Base policy direction place below = go (option_map_or (base_count direction) lists.baseline 0) (policy == 0) refl below
+  policy_within Base policy direction place below = go (option_map_or (λ policy. length (base_rules_of direction policy)) lists.baseline 0) (policy == 0) refl below
     where
       go : (n : ℕ) (first : Bool) → policy == 0 ≡ first → place < (if first then n else 0) → policy < 1
       go n true is some = omega (arith, eqb-true policy 0 is)

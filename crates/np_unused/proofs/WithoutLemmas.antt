@@ -6,7 +6,7 @@ use Rattle.std.proofs.lemmas.List.{map-append}
 use Rattle.std.proofs.lemmas.List.Elements.{All-append, All-cons, All-nil, filter-append}
 use Rattle.np_tiers.proofs.Verdicts.{StandsAt, first_stands, rest_stands}
 use Rattle.np_model.specs.Prelude.{HasAscendingPriorities, ascends}
-use Rattle.np_unused.specs.Prelude.{Admin, AdminPolicy, AdminRule, Base, BasePolicy, Direction, Egress, Ingress, Net, NetPolicy, NetRule, RuleRef, admin_count, admin_without, base_count, base_without, goes, net_count, net_without, without_places}
+use Rattle.np_unused.specs.Prelude.{Admin, AdminPolicy, AdminRule, Base, BasePolicy, Direction, Egress, Ingress, Net, NetPolicy, NetRule, RuleRef, admin_without, base_without, goes, net_without, without_places}
 use Rattle.np_rules.proofs.PlacesLemmas.{map-numbered}
 use Rattle.np_rules.specs.Prelude.{PlacedAdminRule, PlacedBaseRule, PlacedNetRule, PodEnd, admin_places, admin_places_of, admin_rules_of, base_places, base_rules_of, is_isolated, isolates, net_places, net_places_of, net_rules_of, net_selects, subject_selects}
 use Rattle.np_rules.proofs.PolicyRulesLemmas.{placed_admin}
@@ -117,7 +117,7 @@ module _ (rules : List RuleRef) (direction : Direction) (p : PodEnd) where
 
   -- each of them is a rule of the policy of its number
   abbrev pub IsAdminAt : List AdminPolicy → ℕ × PlacedAdminRule → Type 0
-  IsAdminAt all x = (slice_get all x.0 ≡ Some x.1.policy) × (x.1.place < admin_count direction x.1.policy)
+  IsAdminAt all x = (slice_get all x.0 ≡ Some x.1.policy) × (x.1.place < length (admin_rules_of direction x.1.policy))
 
   pub admin_are : (all : List AdminPolicy) (n : ℕ) (policies : List AdminPolicy) → StandsAt all n policies → All (IsAdminAt all) (admin_from n policies)
   admin_are all n [] stands = All-nil (IsAdminAt all)
@@ -197,7 +197,7 @@ module _ (rules : List RuleRef) (direction : Direction) (p : PodEnd) where
       one false = refl
 
   abbrev pub IsNetAt : List NetPolicy → ℕ × PlacedNetRule → Type 0
-  IsNetAt all x = (slice_get all x.0 ≡ Some x.1.policy) × (x.1.place < net_count direction x.1.policy)
+  IsNetAt all x = (slice_get all x.0 ≡ Some x.1.policy) × (x.1.place < length (unwrap_or (net_rules_of direction x.1.policy) []))
 
   pub net_are : (all : List NetPolicy) (n : ℕ) (policies : List NetPolicy) → StandsAt all n policies → All (IsNetAt all) (net_from n policies)
   net_are all n [] stands = All-nil (IsNetAt all)
@@ -266,7 +266,7 @@ module _ (rules : List RuleRef) (direction : Direction) (p : PodEnd) where
       one false = refl
 
   abbrev pub IsBaseAt : Option BasePolicy → ℕ × PlacedBaseRule → Type 0
-  IsBaseAt baseline x = (x.0 ≡ 0) × (x.1.place < option_map_or (base_count direction) baseline 0)
+  IsBaseAt baseline x = (x.0 ≡ 0) × (x.1.place < option_map_or (λ policy. length (base_rules_of direction policy)) baseline 0)
 
   pub base_are : (baseline : Option BasePolicy) → All (IsBaseAt baseline) (base_from baseline)
   base_are None = All-nil (IsBaseAt None)

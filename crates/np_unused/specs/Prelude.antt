@@ -1,11 +1,11 @@
 -- The definitions and types of this crate that its proofs and the crates above speak of, one import line a file.
 pub use Rattle.np_unused.specs.Order.{StandsBefore, direction_number, tier_number}
-pub use Rattle.np_unused.specs.Rules.{IsRuleOf, admin_count, base_count, net_count, policy_count, policy_name_at, rule_count_at, rule_name, rules_from, rules_of_policy, rules_of_tier, tier_text}
+pub use Rattle.np_unused.specs.Rules.{IsRuleOf, policy_count, policy_name_at, rule_count_at, rule_name, rules_from, rules_of_policy, rules_of_tier, tier_text}
 unfoldable pub use Rattle.np_unused.specs.Rules.{all_rules, tier_rule_text}
 pub use Rattle.np_unused.specs.Types.{Action, Admin, AdminPart, AdminPolicy, AdminRule, Allow, At, Base, BasePolicy, Decider, Deny, Direction, Egress, End, EstateLists, Family, Flags, Four, Free, Ingress, Isolated, KindPod, Kinds, Layer, LayerRules, Mark, Net, NetPolicy, NetRule, NoSide, Pass, Pod, PortSpot, RuleId, RuleName, RuleRef, RuleSpots, Search, Six, Tier, UsedRules}
-pub use Rattle.np_unused.specs.Used.{IsListedEnd, IsListedPacket, StandsIn, admin_rule_in, base_rule_in, is_used_between, is_used_in, net_rule_in, packet_families, rule_in, stands_in}
+pub use Rattle.np_unused.specs.Used.{IsListedEnd, IsListedPacket, StandsIn, is_used_between, is_used_in, rule_in, stands_in}
 unfoldable pub use Rattle.np_unused.specs.Used.{four_ends, is_used, listed_ends, pod_ends, six_ends, unused_of}
-pub use Rattle.np_unused.specs.Without.{admin_without, base_without, goes, net_without, same_direction, same_ref, same_tier, without_places}
+pub use Rattle.np_unused.specs.Without.{admin_without, base_without, goes, net_without, same_ref, without_places}
 unfoldable pub use Rattle.np_unused.specs.Without.{without}
 pub use Rattle.np_unused.specs.steps.Firsts.{Notes, first_at, first_rule, hands_down, is_pass, names}
 pub use Rattle.np_unused.specs.steps.Kinds.{AreKindPods, AreKindPodsOf, IsKindPodOf, first_of_kind, is_asked, pod_kind}

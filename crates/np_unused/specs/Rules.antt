@@ -2,27 +2,18 @@
 use Rattle.std.specs.Prelude.{ℕ, ◌<◌, List, [], ◌++◌, codes, map, length, ◌==◌, unwrap_or, if◌then◌else◌}
 use Rattle.std.specs.List.{flat_map, range_with_len, slice_get}
 use Rattle.std.specs.Option.{option_map_or}
-use Rattle.np_unused.specs.Types.{Admin, AdminPolicy, Base, BasePolicy, Direction, Egress, EstateLists, Ingress, Net, NetPolicy, RuleName, RuleRef, Tier}
+use Rattle.np_unused.specs.Types.{Admin, Base, Direction, Egress, EstateLists, Ingress, Net, RuleName, RuleRef, Tier}
 use Rattle.np_explain.specs.DeciderText as explain
 use Rattle.np_rules.specs.Prelude.{admin_rules_of, base_rules_of, net_policy_name, net_rules_of}
 
 -- ---- how many
 
-abbrev pub admin_count : Direction → AdminPolicy → ℕ
-admin_count direction policy = length (admin_rules_of direction policy)
-
--- rules of a direction that is not among the policy's types are no rules
-abbrev pub net_count : Direction → NetPolicy → ℕ
-net_count direction policy = length (unwrap_or (net_rules_of direction policy) [])
-
-abbrev pub base_count : Direction → BasePolicy → ℕ
-base_count direction policy = length (base_rules_of direction policy)
-
--- how many rules the policy at a place of its tier has in a direction; the baseline is at the place 0
+-- How many rules the policy at a place of its tier has in a direction; the baseline is at the place 0. Rules of a direction that is
+-- not among the types of a NetworkPolicy are no rules.
 abbrev pub rule_count_at : EstateLists → Tier → Direction → ℕ → ℕ
-rule_count_at lists Admin direction place = option_map_or (admin_count direction) (slice_get lists.admin_policies place) 0
-rule_count_at lists Net direction place = option_map_or (net_count direction) (slice_get lists.net_policies place) 0
-rule_count_at lists Base direction place = if place == 0 then option_map_or (base_count direction) lists.baseline 0 else 0
+rule_count_at lists Admin direction place = option_map_or (λ policy. length (admin_rules_of direction policy)) (slice_get lists.admin_policies place) 0
+rule_count_at lists Net direction place = option_map_or (λ policy. length (unwrap_or (net_rules_of direction policy) [])) (slice_get lists.net_policies place) 0
+rule_count_at lists Base direction place = if place == 0 then option_map_or (λ policy. length (base_rules_of direction policy)) lists.baseline 0 else 0
 
 -- the rule is one of the estate
 abbrev pub IsRuleOf : EstateLists → RuleRef → Type 0

@@ -2,39 +2,26 @@
 use Rattle.std.specs.Prelude.{◌≡◌, ℕ, ◌<◌, ◌^◌, List, [], ◌∷◌, ◌++◌, map, filter, length, Bool, true, false, ◌&&◌, not, Option, Some, None}
 use Rattle.std.specs.List.{Contains, list_any, range_with_len}
 use Rattle.std.specs.Option.{option_map_or}
-use Rattle.np_addr.specs.Prelude.{IsAddress, family_of}
-use Rattle.np_unused.specs.Types.{At, Decider, End, EstateLists, Family, Four, Free, Isolated, NoSide, Pod, PortSpot, RuleName, RuleRef, Six, Tier}
+use Rattle.np_addr.specs.Prelude.{IsAddress}
+use Rattle.np_unused.specs.Types.{At, Decider, End, EstateLists, Family, Four, Free, Isolated, Pod, PortSpot, RuleName, RuleRef, Six, Tier}
 use Rattle.np_conns.specs.Prelude.{is_spot}
-use Rattle.np_model.specs.Prelude.{families_of}
-use Rattle.np_explain.specs.Prelude.{all_spots, are_one_pod, decider_between, same_rule}
+use Rattle.np_explain.specs.Prelude.{all_spots, are_one_pod, decider_between, packet_families, same_rule}
 use Rattle.np_unused.specs.Rules.{all_rules, rule_name}
 use Rattle.np_unused.specs.declared.rule_ref.Tier.TheVariants as tier
 use Rattle.np_rules.specs.declared.decider.Decider.TheVariants.{Admin, Net, Base}
 
 -- ---- rules in deciders
 
--- the admin rule in a decider: the rule that decides, or the one with Pass that was met
-abbrev pub admin_rule_in : Decider → Option RuleName
-admin_rule_in NoSide = None
-admin_rule_in (Admin rule allow) = Some rule
-admin_rule_in (Net pass rule) = pass
-admin_rule_in (Isolated pass policies) = pass
-admin_rule_in (Base pass rule allow) = pass
-admin_rule_in (Free pass) = pass
-
-abbrev pub net_rule_in : Decider → Option RuleName
-net_rule_in (Net pass rule) = Some rule
-net_rule_in other = None
-
-abbrev pub base_rule_in : Decider → Option RuleName
-base_rule_in (Base pass rule allow) = Some rule
-base_rule_in other = None
-
--- the rule of a tier in a decider
+-- the rule of a tier in a decider: the rule that decides, or the admin rule with Pass that was met
 abbrev pub rule_in : Tier → Decider → Option RuleName
-rule_in tier.Admin decider = admin_rule_in decider
-rule_in tier.Net decider = net_rule_in decider
-rule_in tier.Base decider = base_rule_in decider
+rule_in tier.Admin (Admin rule allow) = Some rule
+rule_in tier.Admin (Net pass rule) = pass
+rule_in tier.Admin (Isolated pass policies) = pass
+rule_in tier.Admin (Base pass rule allow) = pass
+rule_in tier.Admin (Free pass) = pass
+rule_in tier.Net (Net pass rule) = Some rule
+rule_in tier.Base (Base pass rule allow) = Some rule
+rule_in one other = None
 
 -- whether a rule stands in a decider, as the rule or as the Pass that was met
 abbrev pub stands_in : EstateLists → RuleRef → Decider → Bool
@@ -56,13 +43,6 @@ six_ends count = map (λ number. At (Six number)) (range_with_len 0 count)
 -- the pods of the estate, and all addresses
 unfoldable pub listed_ends : EstateLists → List End
 listed_ends lists = pod_ends (length lists.pods) ++ four_ends (2 ^ 32) ++ six_ends (2 ^ 128)
-
--- The families of the packets between two ends: that of the end that is an address, and of the source where both are;
--- between pods those of the estate.
-abbrev pub packet_families : EstateLists → End → End → List Family
-packet_families lists (At a) destination = family_of a ∷ []
-packet_families lists (Pod p) (At a) = family_of a ∷ []
-packet_families lists (Pod p) (Pod q) = families_of lists.pods
 
 -- ---- use
 

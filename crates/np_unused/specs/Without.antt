@@ -1,24 +1,14 @@
 -- Estates without some of their rules. Policies stay, also with no rule left, and so do the types of NetworkPolicies.
-use Rattle.std.specs.Prelude.{ℕ, List, map, filter, Bool, true, false, ◌&&◌, ◌==◌, not}
+use Rattle.std.specs.Prelude.{ℕ, List, map, filter, Bool, ◌&&◌, ◌==◌, not}
 use Rattle.std.specs.List.{enumerate_from, list_any}
 use Rattle.std.specs.Option.{option_map}
+use Rattle.np_unused.specs.Order.{direction_number, tier_number}
 use Rattle.np_unused.specs.Types.{Admin, AdminPolicy, Base, BasePolicy, Direction, Egress, EstateLists, Ingress, Net, NetPolicy, RuleRef, Tier}
 
 -- ---- rules in a list
 
-abbrev pub same_tier : Tier → Tier → Bool
-same_tier Admin Admin = true
-same_tier Net Net = true
-same_tier Base Base = true
-same_tier one another = false
-
-abbrev pub same_direction : Direction → Direction → Bool
-same_direction Ingress Ingress = true
-same_direction Egress Egress = true
-same_direction one another = false
-
 abbrev pub same_ref : RuleRef → RuleRef → Bool
-same_ref a b = same_tier a.tier b.tier && a.policy == b.policy && same_direction a.direction b.direction && a.place == b.place
+same_ref a b = tier_number a.tier == tier_number b.tier && a.policy == b.policy && direction_number a.direction == direction_number b.direction && a.place == b.place
 
 -- whether the rule of a policy at a place goes
 abbrev pub goes : List RuleRef → Tier → ℕ → Direction → ℕ → Bool

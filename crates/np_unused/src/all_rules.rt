@@ -1,8 +1,9 @@
 //! All rules of an estate.
-ghost use Rattle.std.specs.Prelude.{◌≡◌, ◌+◌, ◌≤◌, ◌++◌, IfOk, OnOk};
+ghost use Rattle.std.specs.Prelude.{◌≡◌, ◌+◌, ◌≤◌, ◌++◌, IfOk, OnOk, length, unwrap_or, []};
 ghost use Rattle.std.specs.List.{flat_map, range_with_len};
 ghost use Rattle.np_model.specs.Prelude.{IsFew};
 ghost use Rattle.np_unused.specs.Rules as spec;
+ghost use Rattle.np_rules.specs.Prelude.{admin_rules_of, base_rules_of, net_rules_of};
 
 use crate::rule_ref::{RuleRef, Tier};
 use np_base::{NoMemory, Seq};
@@ -84,7 +85,7 @@ fn rule_count_at(estate: &Estate, tier: Tier, direction: Direction, policy: u32)
 }
 
 fn admin_count(policy: &AdminPolicy, direction: Direction) -> u64
-    ensures { result ≡ spec.admin_count direction policy.now }
+    ensures { result ≡ length (admin_rules_of direction policy.now) }
 {
     match direction {
         Direction::Ingress => policy.ingress.items().len() as u64,
@@ -94,7 +95,7 @@ fn admin_count(policy: &AdminPolicy, direction: Direction) -> u64
 
 // Rules of a direction that is not among the policy's types are no rules.
 fn net_count(policy: &NetPolicy, direction: Direction) -> u64
-    ensures { result ≡ spec.net_count direction policy.now }
+    ensures { result ≡ length (unwrap_or (net_rules_of direction policy.now) []) }
 {
     let rules = match direction {
         Direction::Ingress => &policy.ingress,
@@ -107,7 +108,7 @@ fn net_count(policy: &NetPolicy, direction: Direction) -> u64
 }
 
 fn base_count(policy: &BasePolicy, direction: Direction) -> u64
-    ensures { result ≡ spec.base_count direction policy.now }
+    ensures { result ≡ length (base_rules_of direction policy.now) }
 {
     match direction {
         Direction::Ingress => policy.ingress.items().len() as u64,

@@ -1,8 +1,8 @@
-use Rattle.std.proofs.Common.{◌≡◌, length, refl, ap, subst, ◌∙◌, inl, arith, rules}
+use Rattle.std.proofs.Common.{◌≡◌, length, refl, ap, subst, ◌∙◌, inl, arith, rules, sum_by}
 use Rattle.std.proofs.lemmas.List.{take_all}
 use Rattle.std.proofs.lemmas.Result.{err_from_is_err_and}
 use Rattle.np_io.specs.Prelude.{BeganNext}
-use Rattle.np_frame.specs.Prelude.{HandedOut, total_size}
+use Rattle.np_frame.specs.Prelude.{HandedOut}
 use Rattle.np_frame.proofs.SourcesLemmas.{AreTold-length, BeganFront-next, BeganNext-none, Began-next, HandedOut-more, HandedOut-none, bytes_of-more, total_size-more, RoseBy-more, told-next, Unread-next}
 use Rattle.np_frame.proofs.sources.read_all.Goals as goal
 
@@ -55,7 +55,7 @@ returns-clause-once g c =
       in_room = omega arith;
       handed = λ texts told.
           let fewer = AreTold-length _ _ c.args.names.now texts told in
-          subst (HandedOut _ _) (ap total_size (kept.so_far texts told ∙ take_all c.loop-name.name-index texts (omega arith))) kept.out;
+          subst (HandedOut _ _) (ap (sum_by length) (kept.so_far texts told ∙ take_all c.loop-name.name-index texts (omega arith))) kept.out;
     }
 
 pub returns-in_err-text-clause-err : goal.returns-in_err-text-clause-err
