@@ -14,7 +14,7 @@ use Rattle.np_model.specs.declared.admin_policy.AdminPort.{AdminPort}
 use Rattle.np_model.specs.declared.admin_policy.AdminPort.TheVariants as admin_port
 use Rattle.np_model.specs.declared.network_policy.NetPort.TheVariants as net_port
 use Rattle.np_rules.proofs.EachItem.{All-each, filter-same, find-same, list_any-same, none_or_any-same}
-use Rattle.np_rules.specs.Prelude.{AdminPolicy, AdminRule, BasePolicy, Contact, Direction, Egress, EstateLists, Family, HaveSamePorts, Ingress, IsSameSide, ModelEnd, NamedPort, NetPolicy, NetPort, NetRule, PlacedAdminRule, PlacedBaseRule, PlacedNetRule, PodEnd, PortSpot, admin_decider, admin_entry_matches, admin_peer_matches, admin_places, admin_places_of, admin_precedes, admin_rule_matches, admin_says, base_decider, base_places, base_rules_of, base_says, contact, destination_of, is_alike_for_base, is_alike_for_net, is_isolated, is_named, is_subject_of_both, isolates, least_by, lower_allows, net_entry_matches, net_peer_matches, net_places, net_places_of, net_rule_matches, net_rules_of, net_selects, none_or_any, permits, placed_net_matches, pod, side_allows, subject_selects}
+use Rattle.np_rules.specs.Prelude.{Action, AdminPolicy, AdminRule, Allow, BasePolicy, Contact, Deny, Direction, Egress, EstateLists, Family, HaveSamePorts, Ingress, IsSameSide, ModelEnd, NamedPort, NetPolicy, NetPort, NetRule, Pass, PlacedAdminRule, PlacedBaseRule, PlacedNetRule, PodEnd, PortSpot, RuleName, action_decides, admin_decider, admin_decides, admin_entry_matches, admin_peer_matches, admin_places, admin_places_of, admin_precedes, admin_rule_matches, admin_rule_name, admin_says, base_decider, base_decides, base_places, base_rules_of, base_says, contact, decider, destination_of, is_alike_for_base, is_alike_for_net, is_isolated, is_named, is_subject_of_both, isolates, isolating_names, least_by, lower_allows, lower_decider, net_decider, net_decides, net_entry_matches, net_peer_matches, net_places, net_places_of, net_policy_name, net_precedes, net_rule_matches, net_rules_of, net_selects, none_or_any, permits, placed_net_matches, pod, side_allows, subject_selects}
 use mathlib.Core.Bool.{beq}
 
 -- ---- the NetworkPolicies of their namespaces
@@ -90,11 +90,16 @@ module _ (lists : EstateLists) (direction : Direction) (p q : PodEnd) (same : Is
   pub base-same : base_places lists.baseline direction p ≡ base_places lists.baseline direction q
   base-same = base-of lists.baseline same.base
 
+  isolates-each : AllByRecursion (λ policy. isolates direction p policy ≡ isolates direction q policy) lists.net_policies
+  isolates-each =
+      All-weaker (λ policy. net_selects policy p ≡ net_selects policy q) (λ policy. isolates direction p policy ≡ isolates direction q policy)
+      (λ policy is. ap (λ b. b && is_some (net_rules_of direction policy)) is) lists.net_policies nets-each
+
   isolated-same : is_isolated lists.net_policies direction p ≡ is_isolated lists.net_policies direction q
-  isolated-same =
-      list_any-same (isolates direction p) (isolates direction q) lists.net_policies
-      (All-weaker (λ policy. net_selects policy p ≡ net_selects policy q) (λ policy. isolates direction p policy ≡ isolates direction q policy)
-      (λ policy is. ap (λ b. b && is_some (net_rules_of direction policy)) is) lists.net_policies nets-each)
+  isolated-same = list_any-same (isolates direction p) (isolates direction q) lists.net_policies isolates-each
+
+  isolating-same : isolating_names lists.net_policies direction p ≡ isolating_names lists.net_policies direction q
+  isolating-same = ap (map net_policy_name) (filter-same (isolates direction p) (isolates direction q) lists.net_policies isolates-each)
 
   -- ---- what these say of a far end
 
@@ -157,3 +162,37 @@ module _ (lists : EstateLists) (direction : Direction) (p q : PodEnd) (same : Is
     side-same =
         ap (λ decides. admin_says decides (lower_allows lists direction p (seen p))) admin-says
         ∙ ap (admin_says (admin_decider lists.admin_policies direction q (seen q))) lower-same
+
+    -- ---- what decides there
+
+    net-decides : net_decider lists.net_policies direction p (seen p) ≡ net_decider lists.net_policies direction q (seen q)
+    net-decides =
+        ap (λ places. least_by net_precedes (filter (placed_net_matches (seen p)) places)) nets-same
+        ∙ ap (least_by net_precedes)
+        (filter-same (placed_net_matches (seen p)) (placed_net_matches (seen q)) (net_places lists.net_policies direction q)
+        (All-each _ (λ (placed : PlacedNetRule). net_rule-same placed.policy.namespace placed.rule) (net_places lists.net_policies direction q)))
+
+    lower-decides : (pass : Option RuleName) → lower_decider lists direction p (seen p) pass ≡ lower_decider lists direction q (seen q) pass
+    lower-decides pass =
+        ap (λ b. if b then net_decides pass (isolating_names lists.net_policies direction p) (net_decider lists.net_policies direction p (seen p))
+            else base_decides pass (base_decider lists.baseline direction p (seen p))) isolated-same
+        ∙ ap (λ names. if is_isolated lists.net_policies direction q then net_decides pass names (net_decider lists.net_policies direction p (seen p))
+            else base_decides pass (base_decider lists.baseline direction p (seen p))) isolating-same
+        ∙ ap (λ decides. if is_isolated lists.net_policies direction q then net_decides pass (isolating_names lists.net_policies direction q) decides
+            else base_decides pass (base_decider lists.baseline direction p (seen p))) net-decides
+        ∙ ap (λ decides. if is_isolated lists.net_policies direction q
+            then net_decides pass (isolating_names lists.net_policies direction q) (net_decider lists.net_policies direction q (seen q))
+            else base_decides pass decides) base-says
+
+    admin-decides : (placed : Option PlacedAdminRule) → admin_decides placed (lower_decider lists direction p (seen p)) ≡ admin_decides placed (lower_decider lists direction q (seen q))
+    admin-decides None = lower-decides None
+    admin-decides (Some placed) = by_action placed.rule.action
+      where
+        by_action : (action : Action) →
+            action_decides action (admin_rule_name placed) (lower_decider lists direction p (seen p)) ≡ action_decides action (admin_rule_name placed) (lower_decider lists direction q (seen q))
+        by_action Allow = refl
+        by_action Deny = refl
+        by_action Pass = lower-decides (Some (admin_rule_name placed))
+
+    pub decider-same : decider lists direction (pod p) (seen p) ≡ decider lists direction (pod q) (seen q)
+    decider-same = ap (λ placed. admin_decides placed (lower_decider lists direction p (seen p))) admin-says ∙ admin-decides (admin_decider lists.admin_policies direction q (seen q))

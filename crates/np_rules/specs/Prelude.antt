@@ -10,7 +10,7 @@ pub use Rattle.np_rules.specs.OneEnd.{one_contact}
 pub use Rattle.np_rules.specs.PodSides.{IsSideLayer, KeepsPolicies, KeepsRules, PodSide, SaysVerdicts, near_pod, side_of, side_rule_count, with_addresses, with_pod, with_point, with_stranger}
 pub use Rattle.np_rules.specs.PolicyRules.{AreIsolating, AreSelecting, IsPolicyAt, ids_of, net_rules_in}
 pub use Rattle.np_rules.specs.RulesToward.{admin_rule_reaches, net_rule_reaches}
-pub use Rattle.np_rules.specs.SameSides.{AllowTheSame, HaveSamePorts, IsSameSide, is_alike_for_admin, is_alike_for_base, is_alike_for_net, is_subject_of_both}
+pub use Rattle.np_rules.specs.SameSides.{AllowTheSame, DecideTheSame, HaveSamePorts, IsSameSide, is_alike_for_admin, is_alike_for_base, is_alike_for_net, is_subject_of_both}
 pub use Rattle.np_rules.specs.StrangerRules.{ArePermitted, HasPorts, HavePorts, IsNetOf, kept_matches, kept_reaches, permits_stranger, rule_of}
 pub use Rattle.np_rules.specs.Texts.{said_text, verdict_text}
 pub use Rattle.np_rules.specs.Types.{Action, Address, AdminPart, AdminPeer, AdminPolicy, AdminRule, Allow, At, BasePart, BasePolicy, Beside, Cidr, Decider, Deny, Direction, Egress, EstateLists, Family, First, Four, Ingress, Layer, NamedPort, NetPeer, NetPolicy, NetPort, NetRule, OneEnd, Pass, Piece, PolicyRules, PortSpot, Proto, RuleConns, RuleId, RuleName, Second, Six, Stranger, Which}

@@ -2,6 +2,7 @@
 use Rattle.std.specs.Prelude.{◌≡◌, List, Bool, true, Option, Some, None}
 use Rattle.std.specs.List.{list_all}
 use Rattle.np_model.specs.declared.admin_policy.Subject.{Subject}
+use Rattle.np_rules.specs.Deciders.{decider}
 use Rattle.np_rules.specs.Types.{AdminPolicy, BasePolicy, Direction, Egress, EstateLists, Family, Ingress, NamedPort, NetPolicy, PortSpot}
 use Rattle.np_rules.specs.model.Ends.{ModelEnd, PodEnd, contact, pod}
 use Rattle.np_rules.specs.model.Selection.{net_selects, subject_selects}
@@ -39,3 +40,8 @@ pub record IsSameSide (lists : EstateLists) (direction : Direction) (p q : PodEn
 abbrev pub AllowTheSame : EstateLists → Direction → PodEnd → PodEnd → Type 0
 AllowTheSame lists direction p q = (far : ModelEnd) (family : Family) (spot : PortSpot) →
     side_allows lists direction p (contact direction (pod p) far family spot) ≡ side_allows lists direction q (contact direction (pod q) far family spot)
+
+-- and so is what decides it, rule by rule
+abbrev pub DecideTheSame : EstateLists → Direction → PodEnd → PodEnd → Type 0
+DecideTheSame lists direction p q = (far : ModelEnd) (family : Family) (spot : PortSpot) →
+    decider lists direction (pod p) (contact direction (pod p) far family spot) ≡ decider lists direction (pod q) (contact direction (pod q) far family spot)

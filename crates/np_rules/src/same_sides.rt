@@ -20,8 +20,8 @@ impl Same for NamedPort {
 }
 
 /// Whether two pods, which are named by their places in the estate, have the same side in a direction: the same policies select
-/// both, and where packets come to them, they have the same named ports. Then both allow the same with every far end. Sides of
-/// which it says no may do so, too.
+/// both, and where packets come to them, they have the same named ports. Then both allow the same with every far end, and the
+/// same rules decide it. Sides of which it says no may do so, too.
 pub fn is_same_side(estate: &Estate, pod: u32, other: u32, direction: Direction) -> bool
     requires pod { pod < length estate.now.pods }
     requires other { other < length estate.now.pods }
@@ -29,6 +29,8 @@ pub fn is_same_side(estate: &Estate, pod: u32, other: u32, direction: Direction)
         (spec.IsSameSide estate.now direction (pod_at estate.now pod) (pod_at estate.now other)) }
     ensures allows { OnTrue result
         (spec.AllowTheSame estate.now direction (pod_at estate.now pod) (pod_at estate.now other)) }
+    ensures decides { OnTrue result
+        (spec.DecideTheSame estate.now direction (pod_at estate.now pod) (pod_at estate.now other)) }
 {
     let near = view_at(estate, pod);
     let far = view_at(estate, other);
