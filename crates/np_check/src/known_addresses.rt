@@ -1,14 +1,14 @@
 //! What was found to pass between workloads and addresses.
-ghost use Rattle.std.specs.Prelude.{◌≡◌, IfSome, OnOk};
+ghost use Rattle.std.specs.Prelude.{◌≡◌, IfSome};
 ghost use Rattle.np_table.specs.Prelude.{address_rows, estate_table};
 
 use np_base::{NoMemory, Seq};
 use np_conns::{ConnSet, Proto};
 use np_fold::Folded;
+use np_kept::{Kept, OfSource};
 use np_model::Direction;
 use np_table::AddressRow;
 use std::alloc::Global;
-use std::collections::HashMap;
 use std::marker::Model;
 
 // The rows that are kept take no more bytes, so that those of many workloads do not fill the memory.
@@ -22,41 +22,32 @@ pub(crate) struct WorkAddresses {
     pub rows: Seq<AddressRow>,
 }
 
+impl<'a> OfSource<&'a Folded> for WorkAddresses {
+    ghost use Rattle.std.specs.Prelude.{◌≡◌};
+    ghost use Rattle.np_table.specs.Prelude.{address_rows, estate_table};
+
+    ghost IsRight = { λ folded known. known.rows ≡ address_rows (estate_table folded.now) known.work known.direction };
+}
+
 /// What was found to pass between workloads and addresses, for the statements to come: to find it takes far longer than to look
 /// at it again. Contracts see the lists of the cluster.
 pub(crate) struct KnownAddresses<'a> {
-    alloc: Global,
-    folded: &'a Folded,
-    known: Vec<WorkAddresses>,
-    // The place among these of a workload as it sends, and as it receives.
-    senders: HashMap<u32, usize>,
-    receivers: HashMap<u32, usize>,
-    bytes: usize,
+    kept: Kept<&'a Folded, WorkAddresses>,
 }
 
 // Written out, so that letting one go is one call.
 impl<'a> Drop for KnownAddresses<'a> {
     fn drop(self) {
-        let KnownAddresses {
-            alloc: _alloc,
-            folded: _folded,
-            known: _known,
-            senders: _senders,
-            receivers: _receivers,
-            bytes: _bytes,
-        } = self;
+        let KnownAddresses { kept: _kept } = self;
     }
 }
 
 impl<'a> Model for KnownAddresses<'a> {
-    ghost use Rattle.np_check.specs.steps.Known.{AreKnown};
     ghost use Rattle.np_model.specs.declared.lists.EstateLists.{EstateLists};
 
     ghost Value = { EstateLists };
 
-    ghost view = { λ k. k.folded.now };
-
-    ghost invariant = { λ k. AreKnown k.folded.now k.known.items };
+    ghost view = { λ k. k.kept.now };
 }
 
 impl<'a> KnownAddresses<'a> {
@@ -65,12 +56,7 @@ impl<'a> KnownAddresses<'a> {
         ensures { result ≡ folded.now }
     {
         KnownAddresses {
-            alloc,
-            folded,
-            known: Vec::new(alloc),
-            senders: HashMap::new(alloc),
-            receivers: HashMap::new(alloc),
-            bytes: 0,
+            kept: Kept::new(alloc, folded, MOST_BYTES),
         }
     }
 
@@ -78,12 +64,7 @@ impl<'a> KnownAddresses<'a> {
     pub(crate) fn rows(&self, work: u32, direction: Direction) -> Option<&[AddressRow]>
         ensures { IfSome result (λ rows. rows.now ≡ address_rows (estate_table self.now) work direction) }
     {
-        let places = match direction {
-            Direction::Egress => &self.senders,
-            Direction::Ingress => &self.receivers,
-        };
-        let place = places.get(&work).copied()?;
-        let known = self.known.get(place)?;
+        let known = self.kept.find(key_of(work, direction))?;
         if known.work == work && known.direction == direction {
             Some(known.rows.items())
         } else {
@@ -103,34 +84,21 @@ impl<'a> KnownAddresses<'a> {
         ensures { self.new ≡ self.old }
     {
         let bytes = bytes_of(rows.items());
-        if bytes > MOST_BYTES {
-            return Ok(());
-        }
-        if self.bytes.saturating_add(bytes) > MOST_BYTES {
-            self.forget();
-        }
-        self.bytes = self.bytes.saturating_add(bytes);
-        let place = self.known.len();
-        match direction {
-            Direction::Egress => self.senders.insert(work, place)?,
-            Direction::Ingress => self.receivers.insert(work, place)?,
-        };
-        self.known.push(WorkAddresses {
+        let known = WorkAddresses {
             work,
             direction,
             rows,
-        })?;
-        Ok(())
+        };
+        self.kept.keep(key_of(work, direction), known, bytes)
     }
+}
 
-    // Lets all go that is known.
-    fn forget(&mut self)
-        ensures { self.new ≡ self.old }
-    {
-        self.known = Vec::new(self.alloc);
-        self.senders = HashMap::new(self.alloc);
-        self.receivers = HashMap::new(self.alloc);
-        self.bytes = 0;
+// The key of a workload in a direction.
+fn key_of(work: u32, direction: Direction) -> u64 {
+    let work = u64::from(work) << 1;
+    match direction {
+        Direction::Ingress => work,
+        Direction::Egress => work | 1,
     }
 }
 
