@@ -175,14 +175,14 @@ module _ (lists : EstateLists) (direction : Direction) (p q : PodEnd) (same : Is
     lower-decides : (pass : Option RuleName) → lower_decider lists direction p (seen p) pass ≡ lower_decider lists direction q (seen q) pass
     lower-decides pass =
         ap (λ b. if b then net_decides pass (isolating_names lists.net_policies direction p) (net_decider lists.net_policies direction p (seen p))
-            else base_decides pass (base_decider lists.baseline direction p (seen p))) isolated-same
+        else base_decides pass (base_decider lists.baseline direction p (seen p))) isolated-same
         ∙ ap (λ names. if is_isolated lists.net_policies direction q then net_decides pass names (net_decider lists.net_policies direction p (seen p))
-            else base_decides pass (base_decider lists.baseline direction p (seen p))) isolating-same
+        else base_decides pass (base_decider lists.baseline direction p (seen p))) isolating-same
         ∙ ap (λ decides. if is_isolated lists.net_policies direction q then net_decides pass (isolating_names lists.net_policies direction q) decides
-            else base_decides pass (base_decider lists.baseline direction p (seen p))) net-decides
+        else base_decides pass (base_decider lists.baseline direction p (seen p))) net-decides
         ∙ ap (λ decides. if is_isolated lists.net_policies direction q
-            then net_decides pass (isolating_names lists.net_policies direction q) (net_decider lists.net_policies direction q (seen q))
-            else base_decides pass decides) base-says
+        then net_decides pass (isolating_names lists.net_policies direction q) (net_decider lists.net_policies direction q (seen q))
+        else base_decides pass decides) base-says
 
     admin-decides : (placed : Option PlacedAdminRule) → admin_decides placed (lower_decider lists direction p (seen p)) ≡ admin_decides placed (lower_decider lists direction q (seen q))
     admin-decides None = lower-decides None
