@@ -77,6 +77,13 @@ impl<'a> SharedSide<'a> {
         &self.rules
     }
 
+    /// A pod that has the same side.
+    pub(crate) fn like(&self) -> u32
+        ensures { IsAlike self.now result }
+    {
+        self.like
+    }
+
     /// The protocols and ports that the side allows with another pod as the far end, which is named by its place in the estate,
     /// in packets of a family. The answer is kept for the sides that are the same.
     pub(crate) fn pod_set(

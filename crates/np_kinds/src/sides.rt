@@ -5,6 +5,7 @@ ghost use Rattle.np_conns.specs.declared.port_spot.PortSpot.{PortSpot};
 ghost use Rattle.np_fold.specs.Prelude.{folding_of};
 ghost use Rattle.np_kinds.specs.Between.{IsWorkload};
 ghost use Rattle.np_kinds.specs.Kinds.{AreKnown, KnowsMore, StayKnown, chosen, kind_side, known_at, knows, side_allows_pod};
+ghost use Rattle.np_kinds.specs.Shared.{IsAlike};
 ghost use Rattle.np_model.specs.Prelude.{IsLawful};
 ghost use Rattle.np_model.specs.declared.direction.Direction.TheVariants.{Egress, Ingress};
 
@@ -142,6 +143,18 @@ impl<'a> Sides<'a> {
             Direction::Ingress => &self.receivers,
         };
         sides.get(&kind).unwrap().rules()
+    }
+
+    /// A pod, by its place in the estate, that allows with every far end what the rules of a workload's kind in a direction allow,
+    /// which were asked for: mostly the first pod that was found with the same side.
+    pub fn like(&self, direction: Direction, workload: u32) -> u32
+        requires workload { IsWorkload self.now.lists workload }
+        requires known { knows self.now direction workload ≡ true }
+        ensures like { IsAlike (kind_side self.now.lists direction workload) result }
+        ensures lawful { IsLawful self.now.lists }
+    {
+        let kind = self.folded.workloads().kind_of(workload);
+        side_at(&self.senders, &self.receivers, direction, kind).like()
     }
 
     /// The protocols and ports that the rules of a workload's kind in a direction, which were asked for, allow with another pod
