@@ -131,7 +131,8 @@ pub(crate) struct BreakingAddress {
     pub spot: PortSpot,
 }
 
-// The first address of a set with which a packet of a workload in a direction breaks a statement.
+// The first address of a set with which a packet of a workload in a direction breaks a statement. What passes with addresses is
+// found once for workloads whose sides are the same.
 fn first_with(
     checker: &mut Checker<'_>,
     asked: &Asked<'_>,
@@ -145,12 +146,13 @@ fn first_with(
         (address_allows checker.old (folding_of checker.old) work direction)) }
     ensures same { checker.new ≡ checker.old }
 {
-    if let Some(rows) = checker.known_addresses(work, direction) {
+    let pod = checker.pod_for_addresses(work, direction)?;
+    if let Some(rows) = checker.known_addresses(pod, direction) {
         return first_broken(asked, rows, block);
     }
     let rows = checker.find_addresses(work, direction)?;
     let found = first_broken(asked, rows.items(), block)?;
-    checker.keep_addresses(work, direction, rows)?;
+    checker.keep_addresses(pod, direction, rows)?;
     Ok(found)
 }
 

@@ -4,7 +4,8 @@ ghost use Rattle.np_addr.specs.declared.address.Family.{Family as SpecFamily};
 ghost use Rattle.np_check.specs.Counterexamples.{counterexample_of};
 ghost use Rattle.np_conns.specs.declared.port_spot.PortSpot.{PortSpot};
 ghost use Rattle.np_fold.specs.Prelude.{folding_of};
-ghost use Rattle.np_table.specs.Prelude.{address_rows, estate_table};
+ghost use Rattle.np_rules.specs.Prelude.{side_of};
+ghost use Rattle.np_table.specs.Prelude.{address_rows, estate_table, rows_of_addresses, side_with_address};
 ghost use Rattle.np_conns.specs.Prelude.{conns_of};
 ghost use Rattle.np_kinds.specs.Prelude.{IsWorkload, is_alone, pair_allows};
 
@@ -20,7 +21,7 @@ use np_conns::ConnSet;
 use np_fold::Folded;
 use np_kinds::{KindReach, Sides};
 use np_model::Direction;
-use np_table::{AddressRow, address_rows_by_kind, set_by_kinds};
+use np_table::{AddressRow, address_rows_by_kind, pod_for_addresses, set_by_kinds};
 use std::alloc::Global;
 use std::marker::Model;
 
@@ -144,12 +145,26 @@ impl<'a> Checker<'a> {
         self.sides.folded()
     }
 
-    /// What passes between a workload and each address, where it is known: from the addresses to it in the direction of ingress,
-    /// and from it to them in that of egress.
-    pub(crate) fn known_addresses(&self, work: u32, direction: Direction) -> Option<&[AddressRow]>
-        ensures { IfSome result (λ rows. rows.now ≡ address_rows (estate_table self.now) work direction) }
+    /// A pod, by its place in the cluster, between which and each address the same passes as between a workload and that address:
+    /// from the addresses to it in the direction of ingress, and from it to them in that of egress.
+    pub(crate) fn pod_for_addresses(
+        &mut self,
+        work: u32,
+        direction: Direction,
+    ) -> Result<u32, NoMemory>
+        requires { IsWorkload self.old work }
+        ensures rows { IfOk result (λ pod. rows_of_addresses (side_with_address (side_of self.old pod direction))
+            ≡ address_rows (estate_table self.old) work direction) }
+        ensures same { self.new ≡ self.old }
     {
-        self.addresses.rows(work, direction)
+        pod_for_addresses(&mut self.sides, work, direction)
+    }
+
+    /// What passes between a pod and each address, where it is known.
+    pub(crate) fn known_addresses(&self, pod: u32, direction: Direction) -> Option<&[AddressRow]>
+        ensures { IfSome result (λ rows. rows.now ≡ rows_of_addresses (side_with_address (side_of self.now pod direction))) }
+    {
+        self.addresses.rows(pod, direction)
     }
 
     /// Finds what passes between a workload and each address.
@@ -165,17 +180,17 @@ impl<'a> Checker<'a> {
         address_rows_by_kind(self.alloc, &mut self.sides, work, direction)
     }
 
-    /// Keeps what was found to pass between a workload and each address, for the statements to come.
+    /// Keeps what was found to pass between a pod and each address, for the workloads and statements to come.
     pub(crate) fn keep_addresses(
         &mut self,
-        work: u32,
+        pod: u32,
         direction: Direction,
         rows: Seq<AddressRow>,
     ) -> Result<(), NoMemory>
-        requires { rows ≡ address_rows (estate_table self.old) work direction }
+        requires { rows ≡ rows_of_addresses (side_with_address (side_of self.old pod direction)) }
         ensures { self.new ≡ self.old }
     {
-        self.addresses.keep(work, direction, rows)
+        self.addresses.keep(pod, direction, rows)
     }
 
     /// The protocols and ports that pass from a workload to another in a family, by the rules of their kinds. It is right of a

@@ -1,6 +1,7 @@
-//! What was found to pass between workloads and addresses.
+//! What was found to pass between pods and addresses.
 ghost use Rattle.std.specs.Prelude.{◌≡◌, IfSome};
-ghost use Rattle.np_table.specs.Prelude.{address_rows, estate_table};
+ghost use Rattle.np_rules.specs.Prelude.{side_of};
+ghost use Rattle.np_table.specs.Prelude.{rows_of_addresses, side_with_address};
 
 use np_base::{NoMemory, Seq};
 use np_conns::{ConnSet, Proto};
@@ -11,28 +12,30 @@ use np_table::AddressRow;
 use std::alloc::Global;
 use std::marker::Model;
 
-// The rows that are kept take no more bytes, so that those of many workloads do not fill the memory.
+// The rows that are kept take no more bytes, so that those of many pods do not fill the memory.
 const MOST_BYTES: usize = 32 << 20;
 
-/// A workload and a direction, and what passes there between it and each address.
+/// A pod, by its place in the estate, and a direction, and what passes there between it and each address.
 #[derive(Drop)]
-pub(crate) struct WorkAddresses {
-    pub work: u32,
+pub(crate) struct PodAddresses {
+    pub pod: u32,
     pub direction: Direction,
     pub rows: Seq<AddressRow>,
 }
 
-impl<'a> OfSource<&'a Folded> for WorkAddresses {
+impl<'a> OfSource<&'a Folded> for PodAddresses {
     ghost use Rattle.std.specs.Prelude.{◌≡◌};
-    ghost use Rattle.np_table.specs.Prelude.{address_rows, estate_table};
+    ghost use Rattle.np_rules.specs.Prelude.{side_of};
+    ghost use Rattle.np_table.specs.Prelude.{rows_of_addresses, side_with_address};
 
-    ghost IsRight = { λ folded known. known.rows ≡ address_rows (estate_table folded.now) known.work known.direction };
+    ghost IsRight = { λ folded known.
+        known.rows ≡ rows_of_addresses (side_with_address (side_of folded.now known.pod known.direction)) };
 }
 
-/// What was found to pass between workloads and addresses, for the statements to come: to find it takes far longer than to look
-/// at it again. Contracts see the lists of the cluster.
+/// What was found to pass between pods and addresses, for the workloads and statements to come: to find it takes far longer than
+/// to look at it again. Contracts see the lists of the cluster.
 pub(crate) struct KnownAddresses<'a> {
-    kept: Kept<&'a Folded, WorkAddresses>,
+    kept: Kept<&'a Folded, PodAddresses>,
 }
 
 // Written out, so that letting one go is one call.
@@ -60,45 +63,45 @@ impl<'a> KnownAddresses<'a> {
         }
     }
 
-    /// What passes between a workload and each address, where it is known.
-    pub(crate) fn rows(&self, work: u32, direction: Direction) -> Option<&[AddressRow]>
-        ensures { IfSome result (λ rows. rows.now ≡ address_rows (estate_table self.now) work direction) }
+    /// What passes between a pod and each address, where it is known.
+    pub(crate) fn rows(&self, pod: u32, direction: Direction) -> Option<&[AddressRow]>
+        ensures { IfSome result (λ rows. rows.now ≡ rows_of_addresses (side_with_address (side_of self.now pod direction))) }
     {
-        let known = self.kept.find(key_of(work, direction))?;
-        if known.work == work && known.direction == direction {
+        let known = self.kept.find(key_of(pod, direction))?;
+        if known.pod == pod && known.direction == direction {
             Some(known.rows.items())
         } else {
             None
         }
     }
 
-    /// Keeps what passes between a workload and each address, unless it takes too much memory. Where it does not fit beside the
-    /// rest, the rest is forgotten.
+    /// Keeps what passes between a pod and each address, unless it takes too much memory. Where it does not fit beside the rest, the
+    /// rest is forgotten.
     pub(crate) fn keep(
         &mut self,
-        work: u32,
+        pod: u32,
         direction: Direction,
         rows: Seq<AddressRow>,
     ) -> Result<(), NoMemory>
-        requires { rows ≡ address_rows (estate_table self.old) work direction }
+        requires { rows ≡ rows_of_addresses (side_with_address (side_of self.old pod direction)) }
         ensures { self.new ≡ self.old }
     {
         let bytes = bytes_of(rows.items());
-        let known = WorkAddresses {
-            work,
+        let known = PodAddresses {
+            pod,
             direction,
             rows,
         };
-        self.kept.keep(key_of(work, direction), known, bytes)
+        self.kept.keep(key_of(pod, direction), known, bytes)
     }
 }
 
-// The key of a workload in a direction.
-fn key_of(work: u32, direction: Direction) -> u64 {
-    let work = u64::from(work) << 1;
+// The key of a pod in a direction.
+fn key_of(pod: u32, direction: Direction) -> u64 {
+    let pod = u64::from(pod) << 1;
     match direction {
-        Direction::Ingress => work,
-        Direction::Egress => work | 1,
+        Direction::Ingress => pod,
+        Direction::Egress => pod | 1,
     }
 }
 

@@ -7,12 +7,12 @@ use Rattle.std.proofs.Math.Nat.{mul-le-mul_right}
 use Rattle.np_model.specs.Prelude.{IsLawful, families_of, has_family, or_four}
 use Rattle.np_model.specs.declared.pod.Pod.{Pod}
 use Rattle.np_fold.specs.Prelude.{Folding, folding_of, members_of}
-use Rattle.np_rules.specs.Prelude.{PodSide, pod, side_of, side_rule_count}
+use Rattle.np_rules.specs.Prelude.{AllowTheSame, PodEnd, PodSide, address, allows, near_pod, pod, pod_at, side_of, side_rule_count}
 use Rattle.np_table.proofs.KindLemmas.{conns_of-nothing, nothing, rows_in-agree, rows_in-nothing, rules-most}
 use Rattle.np_kinds.proofs.PairLemmas.{pair_allows-between, between-members}
 use Rattle.np_table.proofs.RangeOneList.{walk-agrees}
 use Rattle.np_conns.proofs.ConnLemmas.{conns_of-agrees, conns_of-has, conns_of-set}
-use Rattle.np_kinds.specs.Prelude.{IsWorkload, address_allows, between_pods, first_side, is_alone, kind_side, pair_allows, side_allows_pod}
+use Rattle.np_kinds.specs.Prelude.{IsAlike, IsWorkload, address_allows, address_numbered, between_pods, first_side, is_alone, kind_side, pair_allows, side_allows_pod, with_address}
 use Rattle.std.proofs.lemmas.Bool.{and_right}
 use Rattle.np_kinds.proofs.ReachLemmas.{between-is}
 use Rattle.np_kinds.proofs.SideLemmas.{kind_side-address, kind_side-count, kind_sides-pass}
@@ -202,6 +202,21 @@ address_rows-kind lists lists' direction workload side same lawful within is =
     ∙ rows_of_addresses-agree _ (side_with_address (first_side lists direction workload)) (λ family number spot. kind_side-address lists direction workload family number spot
     (subst IsLawful same lawful) within)
     ∙ address_rows-first lists direction workload (first_side lists direction workload) refl
+
+-- and so has a pod with the same side
+with_address-alike : (lists : EstateLists) (direction : Direction) (p q : PodEnd) → AllowTheSame lists direction p q → (family : Family) (number : ℕ) (spot : PortSpot) →
+    with_address lists direction (pod p) family number spot ≡ with_address lists direction (pod q) family number spot
+unfolding allows
+with_address-alike lists Ingress p q same family number spot = same (address (address_numbered family number)) family spot
+with_address-alike lists Egress p q same family number spot = ap (λ b. b && true) (same (address (address_numbered family number)) family spot)
+
+pub address_rows-alike : (lists lists' : EstateLists) (direction : Direction) (workload like : ℕ) → lists' ≡ lists → IsLawful lists' → IsWorkload lists workload →
+    IsAlike (kind_side lists' direction workload) like → rows_of_addresses (side_with_address (side_of lists like direction)) ≡ address_rows (estate_table lists) workload direction
+address_rows-alike lists lists' direction workload like same lawful within alike =
+    let near = near_pod (kind_side lists direction workload) in
+    let is = subst (λ (l : EstateLists). IsAlike (kind_side l direction workload) like) same alike in
+    sym (rows_of_addresses-agree (with_address lists direction (pod near)) (with_address lists direction (pod (pod_at lists like))) (with_address-alike lists direction near (pod_at lists like) is.same))
+    ∙ address_rows-kind lists lists direction workload (kind_side lists direction workload) refl (subst IsLawful same lawful) within refl
 
 -- and of it no more rules speak than the most
 pub side-most : (lists lists' : EstateLists) (direction : Direction) (workload : ℕ) (side : PodSide) → lists' ≡ lists → IsLawful lists' → IsWorkload lists workload →

@@ -21,5 +21,7 @@ pub use range_laws::{
     each_number_is_in_one_range, equal_tests_have_one_list, one_list_is_right, pieces_are_right,
 };
 pub use rows::{AddressRow, AddressSpan, Row, RowEnd, RowKey};
-pub use rows_of_addresses::{address_rows, address_rows_by_kind, rows_by_addresses};
+pub use rows_of_addresses::{
+    address_rows, address_rows_by_kind, pod_for_addresses, rows_by_addresses,
+};
 pub use rows_of_pairs::pair_rows;

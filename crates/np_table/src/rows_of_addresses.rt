@@ -2,6 +2,7 @@
 ghost use Rattle.std.specs.Prelude.{◌≡◌, ◌-◌, ◌^◌, [], ◌∷◌, ◌++◌, map, IfOk, OnOk};
 ghost use Rattle.np_addr.specs.declared.address.Family.TheVariants.{Four, Six};
 ghost use Rattle.np_kinds.specs.Prelude.{IsWorkload};
+ghost use Rattle.np_rules.specs.Prelude.{side_of};
 ghost use Rattle.np_table.specs.Prelude.{estate_table, side_with_address, stretches_of, walk};
 ghost use Rattle.np_table.specs.Rows as spec;
 
@@ -46,6 +47,23 @@ pub fn address_rows_by_kind(
     sides.ask(direction, workload)?;
     let near = sides.at(direction, workload);
     rows_by_addresses(alloc, near)
+}
+
+/// A pod, by its place in the estate, between which and each address the same passes as between a workload and that address, by
+/// the rules of the workload's kind, which are found unless they are known. It is mostly one pod for all workloads whose sides
+/// are the same, so that what was found with addresses for one of these can serve for all.
+pub fn pod_for_addresses(
+    sides: &mut Sides<'_>,
+    workload: u32,
+    direction: Direction,
+) -> Result<u32, NoMemory>
+    requires { IsWorkload sides.old.lists workload }
+    ensures rows { IfOk result (λ pod. spec.rows_of_addresses (side_with_address (side_of sides.old.lists pod direction))
+        ≡ spec.address_rows (estate_table sides.old.lists) workload direction) }
+    ensures lists { sides.new.lists ≡ sides.old.lists }
+{
+    sides.ask(direction, workload)?;
+    Ok(sides.like(direction, workload))
 }
 
 /// What passes between a pod and each address, by the pod's rules, as `address_rows` has it for the workload that the pod
