@@ -68,10 +68,10 @@ quiet_known side lawful rules are used all far family out spot inside tier.Admin
     knows_admin side lawful rules are used all (with_pod far family side spot) policy place valid stands
 quiet_known side lawful rules are used all far family out spot inside tier.Net policy place valid stands =
     absurd (false≢true (sym (ap (λ (found : Option RuleName). option_map_or (same_rule (rule_name side.lists (ref_of side.direction tier.Net policy place))) found false)
-    (no_rule side.lists side.direction (near_pod side) (with_pod far family side spot) out rule_in tier.Net (λ rule allow. refl) (λ pass names. refl))) ∙ stands))
+    (no_rule side.lists side.direction (near_pod side) (with_pod far family side spot) out (rule_in tier.Net) (λ rule allow. refl) (λ pass names. refl))) ∙ stands))
 quiet_known side lawful rules are used all far family out spot inside tier.Base policy place valid stands =
     absurd (false≢true (sym (ap (λ (found : Option RuleName). option_map_or (same_rule (rule_name side.lists (ref_of side.direction tier.Base policy place))) found false)
-    (no_rule side.lists side.direction (near_pod side) (with_pod far family side spot) out rule_in tier.Base (λ rule allow. refl) (λ pass names. refl))) ∙ stands))
+    (no_rule side.lists side.direction (near_pod side) (with_pod far family side spot) out (rule_in tier.Base) (λ rule allow. refl) (λ pass names. refl))) ∙ stands))
 
 -- a kind that tells of nothing may be passed over
 pub quiet_kind : (search : Search) → IsSearch search → (used : UsedRules) (kind : ℕ) (far : KindPod) → slice_get search.kinds.pods.now kind ≡ Some far → may_tell search used kind far ≡ false →
