@@ -20,8 +20,8 @@ pub fn flatten_in<O: Sink>(alloc: Global, folded: &Folded, out: &mut O) -> Resul
     ensures { Wrote (sunk O.taken O.faults out.old out.new) (spec.flatten_reply folded.now) result }
 {
     match flatten(alloc, folded) {
-        Ok(flat) => {
-            write_policies(alloc, &flat, out)?;
+        Ok(mut flat) => {
+            write_policies(alloc, &mut flat, out)?;
             Ok(())
         }
         Err(fault) => Err(Failure::Refused(named(alloc, folded, fault)?)),
@@ -50,8 +50,12 @@ fn named(alloc: Global, folded: &Folded, fault: FlatFault) -> Result<Fault, NoMe
 }
 
 // Writes the policies. They are gathered, so that many of them are one call of the sink.
-fn write_policies<O: Sink>(alloc: Global, flat: &Flat<'_>, out: &mut O) -> Result<(), WriteFault>
-    ensures { Writes (sunk O.taken O.faults out.old out.new) (spec.flatten_text flat.now) result }
+fn write_policies<O: Sink>(
+    alloc: Global,
+    flat: &mut Flat<'_>,
+    out: &mut O,
+) -> Result<(), WriteFault>
+    ensures { Writes (sunk O.taken O.faults out.old out.new) (spec.flatten_text flat.old) result }
 {
     let mut gathered = BufferedSink::new(alloc)?;
     gathered.put(out, LIST_FRONT.as_bytes())?;
@@ -67,9 +71,10 @@ fn write_policies<O: Sink>(alloc: Global, flat: &Flat<'_>, out: &mut O) -> Resul
 
 // The text of the policy of a group, behind a comma but for the first.
 #[tactic(auto, unfolding(crate::specs::Report::item_text))]
-fn text_of(alloc: Global, flat: &Flat<'_>, group: u32) -> Result<Vec<u8>, NoMemory>
-    requires { group < group_count flat.now }
-    ensures { IfOk result (λ text. text.items ≡ spec.item_text flat.now group) }
+fn text_of(alloc: Global, flat: &mut Flat<'_>, group: u32) -> Result<Vec<u8>, NoMemory>
+    requires { group < group_count flat.old }
+    ensures text { IfOk result (λ text. text.items ≡ spec.item_text flat.old group) }
+    ensures same { flat.new ≡ flat.old }
 {
     let policy = flat.policy(group)?;
     let text = print_policy(alloc, &policy)?;

@@ -15,22 +15,27 @@ end-is : (lists folded : EstateLists) (group first : ℕ) (e : PodEnd) → folde
     e ≡ first_end lists (first_of_group lists group)
 end-is lists folded group first e same is at = at ∙ ap (λ (l : EstateLists). first_end l first) same ∙ ap (first_end lists) is
 
--- the rule from one group to another
-pub rule-is : (lists folded : EstateLists) (group sender first : ℕ) (found : Option Conns) (set : Conns) (e : PodEnd) (keys : List (List ℕ)) (peer : NetPeer) (peers : List NetPeer)
-    (ports : List NetPort)
-    → found ≡ set_from lists sender group → found ≡ Some set → is_nothing set ≡ false → folded ≡ lists → first ≡ first_of_group lists sender → e ≡ first_end folded first → keys ≡ relevant lists
-    → peer ≡ Pods (Some (namespace_named e.namespace)) (Some (selector_of_keys keys e.labels)) → peers ≡ peer ∷ [] → ports ≡ ports_of set → record { peers = peers; ports = ports } ∷ []
-    ≡ rules_from_group lists group sender
-rule-is lists folded group sender first found set e keys peer peers ports told some filled same is at keys_are peer_is peers_are ports_are =
+-- the rule that lets a set pass from the pods of a group
+pub rule-made : (lists folded : EstateLists) (sender first : ℕ) (set : Conns) (e : PodEnd) (keys : List (List ℕ)) (peer : NetPeer) (peers : List NetPeer) (ports : List NetPort) → folded ≡ lists →
+    first ≡ first_of_group lists sender → e ≡ first_end folded first → keys ≡ relevant lists → peer ≡ Pods (Some (namespace_named e.namespace)) (Some (selector_of_keys keys e.labels)) →
+    peers ≡ peer ∷ [] → ports ≡ ports_of set → record { peers = peers; ports = ports } ≡ record { peers = group_peer lists sender ∷ []; ports = ports_of set }
+rule-made lists folded sender first set e keys peer peers ports same is at keys_are peer_is peers_are ports_are =
     let one : e ≡ first_end lists (first_of_group lists sender) = end-is lists folded sender first e same is at in
     let of_end : PodEnd → NetPeer = λ p. Pods (Some (namespace_named p.namespace)) (Some (selector_of_keys (relevant lists) p.labels)) in
     let own : peer ≡ group_peer lists sender = peer_is ∙ ap (λ (ks : List (List ℕ)). Pods (Some (namespace_named e.namespace)) (Some (selector_of_keys ks e.labels))) keys_are ∙ ap of_end one in
-    let with_peers : List NetPeer → List NetRule = λ ps. record { peers = ps; ports = ports } ∷ [] in
-    let with_ports : List NetPort → List NetRule = λ ps. record { peers = group_peer lists sender ∷ []; ports = ps } ∷ [] in
-    ap with_peers (peers_are ∙ ap (λ (p : NetPeer). p ∷ []) own)
-    ∙ ap with_ports ports_are
+    let with_peers : List NetPeer → NetRule = λ ps. record { peers = ps; ports = ports } in
+    let with_ports : List NetPort → NetRule = λ ps. record { peers = group_peer lists sender ∷ []; ports = ps } in
+    ap with_peers (peers_are ∙ ap (λ (p : NetPeer). p ∷ []) own) ∙ ap with_ports ports_are
+
+-- It is the only one from that group to another, where the set is what passes and is not empty.
+pub rule-is : (lists made : EstateLists) (group sender : ℕ) (found : Option Conns) (set : Conns) (rule : NetRule) → found ≡ set_from lists sender group → found ≡ Some set → is_nothing set ≡ false →
+    made ≡ lists → rule ≡ record { peers = group_peer made sender ∷ []; ports = ports_of set } → rule ∷ [] ≡ rules_from_group lists group sender
+rule-is lists made group sender found set rule told some filled same rule_is =
+    let with_peer : NetPeer → List NetRule = λ p. record { peers = p ∷ []; ports = ports_of set } ∷ [] in
+    ap (λ (r : NetRule). r ∷ []) rule_is
+    ∙ ap (λ (l : EstateLists). with_peer (group_peer l sender)) same
     ∙ sym (ap (rules_of_set (group_peer lists sender)) (sym told ∙ some)
-    ∙ ap (λ (nothing : Bool). if nothing then [] else with_ports (ports_of set)) filled)
+    ∙ ap (λ (nothing : Bool). if nothing then [] else with_peer (group_peer lists sender)) filled)
 
 -- the policy of a group
 pub policy-is : (lists folded : EstateLists) (group first : ℕ) (e : PodEnd) (namespace name : List ℕ) (keys : List (List ℕ)) (subject : Selector) (ingress egress : List NetRule)

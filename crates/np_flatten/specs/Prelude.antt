@@ -13,7 +13,6 @@ pub use Rattle.np_flatten.specs.Selecting.{namespace_named, requirement_at, requ
 pub use Rattle.np_flatten.specs.Types.{Absent, AddressRow, AddressSpan, Alike, Block, Direction, Egress, EstateLists, Family, FlatFault, Four, Ingress, NetPeer, NetPolicy, NetPort, NetRule, NoMemory, Pair, Pod, Pods, PortSpot, Proto, Range, Requirement, Row, Sctp, Selector, Six, Split, Tcp, Traits, Udp}
 pub use Rattle.np_flatten.specs.steps.Agree.{Agree}
 pub use Rattle.np_flatten.specs.steps.Filled.{IsFilled}
-pub use Rattle.np_flatten.specs.steps.Known.{AreKnownBelow}
 pub use Rattle.np_flatten.specs.steps.Least.{IsLeast, IsLike, IsNotBefore, IsUnlike, comes_before, stands_before, with_number}
 pub use Rattle.np_flatten.specs.steps.Next.{next_in}
 pub use Rattle.np_flatten.specs.steps.OwnSets.{AreTwo, own_set}

@@ -1,7 +1,6 @@
 -- What the steps of the code make, which private contracts and proofs cite: no public contract needs it.
 pub mod Agree
 pub mod Filled
-pub mod Known
 pub mod Least
 pub mod Next
 pub mod OwnSets

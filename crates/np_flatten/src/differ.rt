@@ -18,11 +18,12 @@ use np_table::{AddressRow, AddressSpan, address_rows};
 /// Whether two workloads differ in what passes between them and a third, within and between them, or at some address in a
 /// direction. At most four sets are held at a time.
 #[tactic(auto, unfolding(crate::specs::Faults::differ))]
-pub(crate) fn differ(passing: &Passing<'_>, a: u32, b: u32) -> Result<bool, NoMemory>
-    requires a { IsWorkload passing.now a }
-    requires b { IsWorkload passing.now b }
+pub(crate) fn differ(passing: &mut Passing<'_>, a: u32, b: u32) -> Result<bool, NoMemory>
+    requires a { IsWorkload passing.old a }
+    requires b { IsWorkload passing.old b }
     requires apart { a ≢ b }
-    ensures { IfOk result (λ answer. answer ≡ spec.differ passing.now a b) }
+    ensures answer { IfOk result (λ answer. answer ≡ spec.differ passing.old a b) }
+    ensures same { passing.new ≡ passing.old }
 {
     if differ_at_some(passing, a, b)? {
         return Ok(true);
@@ -37,10 +38,12 @@ pub(crate) fn differ(passing: &Passing<'_>, a: u32, b: u32) -> Result<bool, NoMe
 }
 
 // Whether they differ in what passes between them and some third workload.
-fn differ_at_some(passing: &Passing<'_>, a: u32, b: u32) -> Result<bool, NoMemory>
-    requires a { IsWorkload passing.now a }
-    requires b { IsWorkload passing.now b }
-    ensures { IfOk result (λ answer. answer ≡ list_any (spec.differ_at passing.now a b) (places (number_of_workloads passing.now))) }
+fn differ_at_some(passing: &mut Passing<'_>, a: u32, b: u32) -> Result<bool, NoMemory>
+    requires a { IsWorkload passing.old a }
+    requires b { IsWorkload passing.old b }
+    ensures answer { IfOk result (λ answer.
+        answer ≡ list_any (spec.differ_at passing.old a b) (places (number_of_workloads passing.old))) }
+    ensures same { passing.new ≡ passing.old }
 {
     for third in 0..passing.folded().workloads().count() {
         if differ_at(passing, a, b, third)? {
@@ -51,11 +54,12 @@ fn differ_at_some(passing: &Passing<'_>, a: u32, b: u32) -> Result<bool, NoMemor
 }
 
 // Whether they differ in what they send to a third workload, or in what they receive of it.
-fn differ_at(passing: &Passing<'_>, a: u32, b: u32, third: u32) -> Result<bool, NoMemory>
-    requires a { IsWorkload passing.now a }
-    requires b { IsWorkload passing.now b }
-    requires third { IsWorkload passing.now third }
-    ensures { IfOk result (λ answer. answer ≡ spec.differ_at passing.now a b third) }
+fn differ_at(passing: &mut Passing<'_>, a: u32, b: u32, third: u32) -> Result<bool, NoMemory>
+    requires a { IsWorkload passing.old a }
+    requires b { IsWorkload passing.old b }
+    requires third { IsWorkload passing.old third }
+    ensures answer { IfOk result (λ answer. answer ≡ spec.differ_at passing.old a b third) }
+    ensures same { passing.new ≡ passing.old }
 {
     if third == a || third == b {
         return Ok(false);
@@ -68,14 +72,15 @@ fn differ_at(passing: &Passing<'_>, a: u32, b: u32, third: u32) -> Result<bool, 
 
 // Whether what passes from one workload to another differs from what passes from one of the other pair to its other.
 fn pass_otherwise(
-    passing: &Passing<'_>,
+    passing: &mut Passing<'_>,
     pair: (u32, u32),
     other: (u32, u32),
 ) -> Result<bool, NoMemory>
-    requires pair { AreTwo passing.now pair.0 pair.1 }
-    requires other { AreTwo passing.now other.0 other.1 }
-    ensures { IfOk result (λ answer.
-        answer ≡ not (are_same_conns (spec.set_of passing.now pair.0 pair.1) (spec.set_of passing.now other.0 other.1))) }
+    requires pair { AreTwo passing.old pair.0 pair.1 }
+    requires other { AreTwo passing.old other.0 other.1 }
+    ensures answer { IfOk result (λ answer.
+        answer ≡ not (are_same_conns (spec.set_of passing.old pair.0 pair.1) (spec.set_of passing.old other.0 other.1))) }
+    ensures same { passing.new ≡ passing.old }
 {
     let set = passing.between(pair.0, pair.1)?;
     let others = passing.between(other.0, other.1)?;
@@ -83,11 +88,12 @@ fn pass_otherwise(
 }
 
 // Whether what passes within and between them differs.
-fn differ_within(passing: &Passing<'_>, a: u32, b: u32) -> Result<bool, NoMemory>
-    requires a { IsWorkload passing.now a }
-    requires b { IsWorkload passing.now b }
+fn differ_within(passing: &mut Passing<'_>, a: u32, b: u32) -> Result<bool, NoMemory>
+    requires a { IsWorkload passing.old a }
+    requires b { IsWorkload passing.old b }
     requires apart { a ≢ b }
-    ensures { IfOk result (λ answer. answer ≡ spec.two_differ (spec.own_sets passing.now a b)) }
+    ensures answer { IfOk result (λ answer. answer ≡ spec.two_differ (spec.own_sets passing.old a b)) }
+    ensures same { passing.new ≡ passing.old }
 {
     let mut sets = Vec::new(passing.alloc());
     add_within(&mut sets, passing, a)?;

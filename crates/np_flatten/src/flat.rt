@@ -1,8 +1,9 @@
 //! The flat policies of an estate.
-ghost use Rattle.std.specs.Prelude.{◌≡◌, ◌<◌, ◌^◌, ◌++◌, IfOk, OnOk, map};
+ghost use Rattle.std.specs.Prelude.{◌≡◌, ◌<◌, ◌^◌, ◌++◌, [], ◌∷◌, IfOk, OnOk, map};
 ghost use Rattle.np_classes.specs.Classes.{places};
 ghost use Rattle.np_flatten.specs.Flat as spec;
 ghost use Rattle.np_flatten.specs.Groups.{first_of_group, group_count, group_firsts, group_of, relevant};
+ghost use Rattle.np_flatten.specs.Ports.{ports_of};
 ghost use Rattle.np_flatten.specs.steps.Next.{next_in};
 ghost use Rattle.np_kinds.specs.Prelude.{IsWorkload, number_of_workloads};
 
@@ -77,9 +78,12 @@ impl<'a> Flat<'a> {
     /// As ingress it has a rule for each group of which some workload may send to one of this group, and then one for each
     /// range of addresses that may send to it, as the fewest blocks. As egress it has a rule of every pod, since what its pods
     /// may not send to others the others' ingress refuses, and then one for each range of addresses that it may send to.
-    pub fn policy(&self, group: u32) -> Result<NetPolicy, NoMemory>
-        requires { group < group_count self.now }
-        ensures { IfOk result (λ policy. policy ≡ spec.flat_policy self.now group) }
+    ///
+    /// What was found of the rules is kept for the policies to come, which stay as they are.
+    pub fn policy(&mut self, group: u32) -> Result<NetPolicy, NoMemory>
+        requires { group < group_count self.old }
+        ensures policy { IfOk result (λ policy. policy ≡ spec.flat_policy self.old group) }
+        ensures same { self.new ≡ self.old }
     {
         let ingress = self.ingress_rules(group)?;
         let egress = self.egress_rules(group)?;
@@ -95,9 +99,10 @@ impl<'a> Flat<'a> {
     }
 
     // The ingress of a group: from groups, and then from addresses.
-    fn ingress_rules(&self, group: u32) -> Result<Seq<NetRule>, NoMemory>
-        requires { group < group_count self.now }
-        ensures { IfOk result (λ made. made ≡ spec.ingress_rules self.now group) }
+    fn ingress_rules(&mut self, group: u32) -> Result<Seq<NetRule>, NoMemory>
+        requires { group < group_count self.old }
+        ensures rules { IfOk result (λ made. made ≡ spec.ingress_rules self.old group) }
+        ensures same { self.new ≡ self.old }
     {
         let mut rules = Seq::new(self.passing.alloc());
         for sender in 0..self.count() {
@@ -121,14 +126,15 @@ impl<'a> Flat<'a> {
 
     // Adds the rule from one group to another, where something may pass.
     fn add_rule_from(
-        &self,
+        &mut self,
         rules: &mut Seq<NetRule>,
         sender: u32,
         group: u32,
     ) -> Result<(), NoMemory>
-        requires sender { sender < group_count self.now }
-        requires group { group < group_count self.now }
-        ensures { OnOk result (rules.new ≡ rules.old ++ spec.rules_from_group self.now group sender) }
+        requires sender { sender < group_count self.old }
+        requires group { group < group_count self.old }
+        ensures rules { OnOk result (rules.new ≡ rules.old ++ spec.rules_from_group self.old group sender) }
+        ensures same { self.new ≡ self.old }
     {
         let Some(set) = self.set_from(sender, group)? else {
             return Ok(());
@@ -136,31 +142,44 @@ impl<'a> Flat<'a> {
         if is_nothing(&set) {
             return Ok(());
         }
+        rules.push(self.rule_of(sender, &set)?)
+    }
+
+    // The rule that lets a set pass from the pods of a group.
+    fn rule_of(&self, sender: u32, set: &ConnSet) -> Result<NetRule, NoMemory>
+        requires { sender < group_count self.now }
+        ensures { IfOk result (λ rule.
+            rule ≡ record { peers = spec.group_peer self.now sender ∷ []; ports = ports_of set.now }) }
+    {
         let alloc = self.passing.alloc();
         let pod = first_pod(self.folded(), self.first(sender));
         let mut peers = Seq::new(alloc);
         peers.push(peer_like(alloc, self.keys(), pod)?)?;
-        let ports = ports_of(alloc, &set)?;
-        rules.push(NetRule { peers, ports })
+        let ports = ports_of(alloc, set)?;
+        Ok(NetRule { peers, ports })
     }
 
     // What passes from one group to another. `None` exactly where both are one group of one pod.
-    fn set_from(&self, sender: u32, group: u32) -> Result<Option<ConnSet>, NoMemory>
-        requires sender { sender < group_count self.now }
-        requires group { group < group_count self.now }
-        ensures { IfOk result (λ made. made ≡ spec.set_from self.now sender group) }
+    fn set_from(&mut self, sender: u32, group: u32) -> Result<Option<ConnSet>, NoMemory>
+        requires sender { sender < group_count self.old }
+        requires group { group < group_count self.old }
+        ensures set { IfOk result (λ made. made ≡ spec.set_from self.old sender group) }
+        ensures same { self.new ≡ self.old }
     {
         if sender == group {
             return self.set_within(group);
         }
-        let set = self.passing.between(self.first(sender), self.first(group))?;
+        let source = self.first(sender);
+        let destination = self.first(group);
+        let set = self.passing.between(source, destination)?;
         Ok(Some(set))
     }
 
     // What passes from a group to itself: within its first workload, or where that has one pod to the next one.
-    fn set_within(&self, group: u32) -> Result<Option<ConnSet>, NoMemory>
-        requires { group < group_count self.now }
-        ensures { IfOk result (λ made. made ≡ spec.set_from self.now group group) }
+    fn set_within(&mut self, group: u32) -> Result<Option<ConnSet>, NoMemory>
+        requires { group < group_count self.old }
+        ensures set { IfOk result (λ made. made ≡ spec.set_from self.old group group) }
+        ensures same { self.new ≡ self.old }
     {
         let first = self.first(group);
         let within = self.passing.within(first)?;

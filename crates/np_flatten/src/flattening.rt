@@ -32,8 +32,8 @@ pub fn flatten<'a>(alloc: Global, folded: &'a Folded) -> Result<Flat<'a>, FlatFa
         });
     }
     let groups = groups_of(alloc, folded)?;
-    let passing = Passing::of(alloc, folded)?;
-    if let Some((a, b)) = first_unlike(&passing, &groups)? {
+    let mut passing = Passing::of(alloc, folded)?;
+    if let Some((a, b)) = first_unlike(&mut passing, &groups)? {
         return Err(FlatFault::Alike { a, b });
     }
     Ok(Flat::of(passing, groups))

@@ -9,14 +9,14 @@ use np_base::{Cells, NoMemory};
 use np_conns::ConnSet;
 use np_fold::Folded;
 use np_kinds::{KindReach, Sides};
-use np_model::Direction;
-use np_table::{pair_set, set_between};
+use np_table::{pair_set, set_by_kinds};
 use std::alloc::Global;
 use std::marker::Model;
 
-/// For each kind of workloads of an estate the rules of the pod that stands for it, as it sends and as it receives, and which
-/// kinds these let through at all. What they give between two workloads is made when it is asked for, and not kept. Contracts
-/// see the lists of the estate.
+/// For each kind of workloads of an estate the rules of the pod that stands for it, as it sends and as it receives, which are
+/// found when they are first asked for, and which kinds these let through at all. What they give between two workloads is made
+/// when it is asked for; what one side allows with a far pod is found once for all sides that are the same. Contracts see the
+/// lists of the estate.
 pub(crate) struct Passing<'a> {
     alloc: Global,
     sides: Sides<'a>,
@@ -36,30 +36,24 @@ impl<'a> Drop for Passing<'a> {
 
 impl<'a> Model for Passing<'a> {
     ghost use Rattle.np_model.specs.declared.lists.EstateLists.{EstateLists};
-    ghost use Rattle.np_flatten.specs.steps.Known.{AreKnownBelow};
     ghost use Rattle.np_kinds.specs.Kinds.{IsKindReach};
-    ghost use Rattle.np_kinds.specs.Between.{number_of_workloads};
 
     ghost Value = { EstateLists };
 
     ghost view = { λ p. p.sides.lists };
 
-    ghost invariant = { λ p. AreKnownBelow p.sides (number_of_workloads p.sides.lists) × IsKindReach p.sides.lists p.reach };
+    ghost invariant = { λ p. IsKindReach p.sides.lists p.reach };
 }
 
 impl<'a> Passing<'a> {
-    /// The rules of all kinds. Each policy is asked once for each of them and each direction.
+    /// No rules are known, but which kinds may send anything to which.
     pub(crate) fn of(alloc: Global, folded: &'a Folded) -> Result<Passing<'a>, NoMemory>
         ensures { IfOk result (λ made. made ≡ folded.now) }
     {
-        let mut sides = Sides::new(alloc, folded);
-        for workload in 0..folded.workloads().count() {
-            sides.ask_pair(workload, workload)?;
-        }
         let reach = KindReach::of(alloc, folded)?;
         Ok(Passing {
             alloc,
-            sides,
+            sides: Sides::new(alloc, folded),
             reach,
         })
     }
@@ -77,20 +71,19 @@ impl<'a> Passing<'a> {
     }
 
     /// What passes from a workload to another in packets of the first family of the list.
-    pub(crate) fn between(&self, source: u32, destination: u32) -> Result<ConnSet, NoMemory>
-        requires source { IsWorkload self.now source }
-        requires destination { IsWorkload self.now destination }
+    pub(crate) fn between(&mut self, source: u32, destination: u32) -> Result<ConnSet, NoMemory>
+        requires source { IsWorkload self.old source }
+        requires destination { IsWorkload self.old destination }
         requires apart { source ≢ destination }
-        ensures { IfOk result (λ made. made ≡ spec.set_of self.now source destination) }
+        ensures set { IfOk result (λ made. made ≡ spec.set_of self.old source destination) }
+        ensures same { self.new ≡ self.old }
     {
         let folded = self.folded();
         if self.reach.is_silent(folded, source, destination) {
             let nothing = ConnSet::nothing(self.alloc)?;
             return Ok(nothing);
         }
-        let sender = self.sides.at(Direction::Egress, source);
-        let receiver = self.sides.at(Direction::Ingress, destination);
-        set_between(self.alloc, sender, receiver, first_family(folded))
+        set_by_kinds(&mut self.sides, source, destination, first_family(folded))
     }
 
     /// What passes within a workload in packets of the first family of the list. `None` exactly where it has one pod.

@@ -14,12 +14,13 @@ use np_classes::Classes;
 /// kind is held against the first of its group: workloads of one kind never differ, and where none differs from the first of
 /// its group no two of a group do.
 pub(crate) fn first_unlike(
-    passing: &Passing<'_>,
+    passing: &mut Passing<'_>,
     groups: &Classes,
 ) -> Result<Option<(u32, u32)>, NoMemory>
-    requires firsts { groups.now.firsts ≡ group_firsts passing.now }
-    requires numbers { groups.now.numbers ≡ map (group_of passing.now) (places (number_of_workloads passing.now)) }
-    ensures { IfOk result (λ found. found ≡ first_pair (faults.is_unlike passing.now) (number_of_workloads passing.now)) }
+    requires firsts { groups.now.firsts ≡ group_firsts passing.old }
+    requires numbers { groups.now.numbers ≡ map (group_of passing.old) (places (number_of_workloads passing.old)) }
+    ensures found { IfOk result (λ found. found ≡ first_pair (faults.is_unlike passing.old) (number_of_workloads passing.old)) }
+    ensures same { passing.new ≡ passing.old }
 {
     let mut found = None;
     for workload in passing.folded().workloads().first_of_kinds() {
@@ -31,14 +32,15 @@ pub(crate) fn first_unlike(
 
 // The least pair, where these two are looked at as well: the first of a group and a workload of it.
 fn least_with(
-    passing: &Passing<'_>,
+    passing: &mut Passing<'_>,
     first: u32,
     workload: u32,
     found: Option<(u32, u32)>,
 ) -> Result<Option<(u32, u32)>, NoMemory>
-    requires first { IsWorkload passing.now first }
-    requires workload { IsWorkload passing.now workload }
-    ensures { IfOk result (λ least. least ≡ with_number (faults.differ passing.now) first workload found) }
+    requires first { IsWorkload passing.old first }
+    requires workload { IsWorkload passing.old workload }
+    ensures least { IfOk result (λ least. least ≡ with_number (faults.differ passing.old) first workload found) }
+    ensures same { passing.new ≡ passing.old }
 {
     if !comes_before(first, workload, found) {
         return Ok(found);

@@ -11,12 +11,12 @@ use std::str::from_utf8;
 /// A line for each of the policies, or why there are none.
 pub fn flat_text(alloc: Global, folded: &Folded) -> Result<String, NoMemory> {
     match flatten(alloc, folded) {
-        Ok(flat) => policies_text(alloc, &flat),
+        Ok(mut flat) => policies_text(alloc, &mut flat),
         Err(fault) => Ok(format!(in alloc; "{fault}")?),
     }
 }
 
-fn policies_text(alloc: Global, flat: &Flat<'_>) -> Result<String, NoMemory> {
+fn policies_text(alloc: Global, flat: &mut Flat<'_>) -> Result<String, NoMemory> {
     let mut text = String::new(alloc);
     for group in 0..flat.count() {
         let policy = flat.policy(group)?;

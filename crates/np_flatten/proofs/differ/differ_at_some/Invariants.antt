@@ -6,4 +6,7 @@ use Rattle.np_flatten.specs.Prelude.{differ_at}
 
 -- at none of the workloads so far do they differ
 abbrev pub invariant-loop-third : goal.invariant-loop-third
-invariant-loop-third l = list_any (differ_at l.passing l.a l.b) (places l.third) ≡ false
+invariant-loop-third l = record {
+  same : l.passing ≡ l.fn.passing;
+  none : list_any (differ_at l.fn.passing l.a l.b) (places l.third) ≡ false;
+}

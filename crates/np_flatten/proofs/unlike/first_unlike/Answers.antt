@@ -24,13 +24,13 @@ first_of_group-first-requires-clause-within c =
 pub least_with-requires-clause-first : goal.least_with-requires-clause-first
 least_with-requires-clause-first c =
     let is = c.first_of_kinds-workload-items.ensures ∙ ap (λ (f : Folding). f.first_of_kinds) c.workloads.ensures.value ∙ ap (λ (l : EstateLists). (folding_of l).first_of_kinds) c.folded.ensures in
-    rw c.first_of_group-first.ensures (first_by-in c.args.passing.now c.args.groups.now.numbers c.args.groups.now.firsts c.requires.numbers c.requires.firsts _
+    rw (c.loop-workload.invariant.same, c.first_of_group-first.ensures) (first_by-in c.args.passing.now c.args.groups.now.numbers c.args.groups.now.firsts c.requires.numbers c.requires.firsts _
     (item-in c.args.passing.now c.first_of_kinds-workload-items.result.now c.loop-workload.workload-index is c.loop-workload-test.true))
 
 pub least_with-requires-clause-workload : goal.least_with-requires-clause-workload
 least_with-requires-clause-workload c =
     let is = c.first_of_kinds-workload-items.ensures ∙ ap (λ (f : Folding). f.first_of_kinds) c.workloads.ensures.value ∙ ap (λ (l : EstateLists). (folding_of l).first_of_kinds) c.folded.ensures in
-    item-in c.args.passing.now c.first_of_kinds-workload-items.result.now c.loop-workload.workload-index is c.loop-workload-test.true
+    rw c.loop-workload.invariant.same (item-in c.args.passing.now c.first_of_kinds-workload-items.result.now c.loop-workload.workload-index is c.loop-workload-test.true)
 
 pub loop-workload-preserved : goal.loop-workload-preserved
 loop-workload-preserved c =
@@ -41,15 +41,20 @@ loop-workload-preserved c =
     let is = c.first_of_kinds-workload-items.ensures ∙ ap (λ (f : Folding). f.first_of_kinds) c.workloads.ensures.value ∙ ap (λ (l : EstateLists). (folding_of l).first_of_kinds) c.folded.ensures in
     let within = item-in lists items i is c.loop-workload-test.true in
     let first = c.first_of_group-first.ensures ∙ first_by-is lists c.args.groups.now.numbers c.args.groups.now.firsts c.requires.numbers c.requires.firsts w within in
-    let least = least-more (number_of_workloads lists) (first_with lists) (differ lists) (take i items) w c.loop-workload.found within c.loop-workload.invariant in
-    subst (λ (found : Option (ℕ × ℕ)). IsLeastUnlike lists (take (i + 1) items) found)
-    (sym (c.in_ok-found.ensures ∙ ap (λ (f : ℕ). with_number (differ lists) f w c.loop-workload.found) first))
-    (subst (λ (all : List ℕ). IsLeastUnlike lists all (with_number (differ lists) (first_with lists w) w c.loop-workload.found)) (sym (take_more items i 0 c.loop-workload-test.true)) least)
+    let least = least-more (number_of_workloads lists) (first_with lists) (differ lists) (take i items) w c.loop-workload.found within c.loop-workload.invariant.least in
+    let same = c.loop-workload.invariant.same in
+    let found = c.in_ok-found.ensures.least ∙ ap (λ (l : EstateLists). with_number (differ l) c.first_of_group-first.result w c.loop-workload.found) same
+    ∙ ap (λ (f : ℕ). with_number (differ lists) f w c.loop-workload.found) first in
+    record {
+      same = c.in_ok-found.ensures.same ∙ same;
+      least = subst (λ (found : Option (ℕ × ℕ)). IsLeastUnlike lists (take (i + 1) items) found) (sym found)
+          (subst (λ (all : List ℕ). IsLeastUnlike lists all (with_number (differ lists) (first_with lists w) w c.loop-workload.found)) (sym (take_more items i 0 c.loop-workload-test.true)) least);
+    }
 
-pub returns : goal.returns
-returns c =
+pub returns-clause-found : goal.returns-clause-found
+returns-clause-found c =
     let lists = c.args.passing.now in
     let items = c.first_of_kinds-workload-items.result.now in
     let is = c.first_of_kinds-workload-items.ensures ∙ ap (λ (f : Folding). f.first_of_kinds) c.workloads.ensures.value ∙ ap (λ (l : EstateLists). (folding_of l).first_of_kinds) c.folded.ensures in
     unlike-first lists c.loop-workload.found (subst IsLawful c.folded.ensures c.workloads.ensures.lawful)
-    (subst (λ (all : List ℕ). IsLeastUnlike lists all c.loop-workload.found) (take_all c.loop-workload.workload-index items (omega arith) ∙ is) c.loop-workload.invariant)
+    (subst (λ (all : List ℕ). IsLeastUnlike lists all c.loop-workload.found) (take_all c.loop-workload.workload-index items (omega arith) ∙ is) c.loop-workload.invariant.least)

@@ -5,4 +5,7 @@ use Rattle.np_flatten.specs.Prelude.{rules_from_group}
 
 -- the rules of the groups so far
 abbrev pub invariant-loop-sender : goal.invariant-loop-sender
-invariant-loop-sender l = l.rules ≡ flat_map (rules_from_group l.self l.group) (places l.sender)
+invariant-loop-sender l = record {
+  same : l.self ≡ l.fn.self;
+  rules : l.rules ≡ flat_map (rules_from_group l.fn.self l.group) (places l.sender);
+}

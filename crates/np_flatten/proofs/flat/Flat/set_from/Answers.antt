@@ -6,12 +6,12 @@ use Rattle.np_flatten.proofs.flat.Flat.set_from.Goals as goal
 
 pub between-requires-clause-apart : goal.between-requires-clause-apart
 between-requires-clause-apart c = λ same. firsts-apart c.args.self.now c.args.sender c.args.group c.requires.sender c.requires.group c.if-sender-group.false
-    (sym c.first.ensures.value ∙ same ∙ c.first-2.ensures.value)
+    (sym c.first-source.ensures.value ∙ same ∙ c.first-destination.ensures.value)
 
-pub returns : goal.returns
-returns c =
-    ap (λ (set : Conns). Some set) (c.in_ok-set.ensures
-    ∙ ap (λ (l : EstateLists). set_of l c.first.result c.first-2.result) c.self.view_is
-    ∙ ap (λ (f : ℕ). set_of c.args.self.now f c.first-2.result) c.first.ensures.value
-    ∙ ap (λ (f : ℕ). set_of c.args.self.now (first_of_group c.args.self.now c.args.sender) f) c.first-2.ensures.value)
+pub returns-clause-set : goal.returns-clause-set
+returns-clause-set c =
+    ap (λ (set : Conns). Some set) (c.in_ok-set.ensures.set
+    ∙ ap (λ (l : EstateLists). set_of l c.first-source.result c.first-destination.result) c.self.view_is
+    ∙ ap (λ (f : ℕ). set_of c.args.self.now f c.first-destination.result) c.first-source.ensures.value
+    ∙ ap (λ (f : ℕ). set_of c.args.self.now (first_of_group c.args.self.now c.args.sender) f) c.first-destination.ensures.value)
     ∙ set-cross c.args.self.now c.args.sender c.args.group c.requires.sender c.requires.group c.if-sender-group.false
