@@ -82,12 +82,7 @@ impl<'a> LightSides<'a> {
     }
 
     /// Keeps the side of a pod under its mark.
-    pub(crate) fn keep(
-        &mut self,
-        pod: u32,
-        direction: Direction,
-        mark: u64,
-    ) -> Result<(), NoMemory>
+    pub(crate) fn keep(&mut self, pod: u32, direction: Direction, mark: u64) -> Result<(), NoMemory>
         requires pod { pod < length self.old.pods }
         requires few { spec.HasFew self.old pod direction }
         ensures { self.new ≡ self.old }
