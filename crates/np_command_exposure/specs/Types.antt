@@ -11,3 +11,4 @@ pub use Rattle.np_command.specs.declared.fault.Fault.TheVariants.{TooManyPattern
 pub use Rattle.np_command_exposure.specs.declared.report.ShownSide.{ShownSide}
 pub use Rattle.np_command_exposure.specs.declared.known_rows.KnownSide.{KnownSide}
 pub use Rattle.np_command_exposure.specs.declared.known_rows.PeerRow.{PeerRow}
+pub use Rattle.np_command_exposure.specs.declared.light_sides.LightSide.{LightSide}

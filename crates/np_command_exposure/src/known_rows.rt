@@ -6,9 +6,9 @@ ghost use Rattle.np_rules.specs.Prelude.{side_of};
 use np_base::{NoMemory, Seq, Text};
 use np_conns::print_conns;
 use np_exposure::{ExposureRow, is_same_side, print_peer};
+use np_kept::{Kept, OfSource};
 use np_model::{Direction, Estate};
 use std::alloc::Global;
-use std::collections::HashMap;
 use std::marker::Model;
 
 // The texts that are kept have no more bytes, so that many large exposures do not fill the memory.
@@ -29,39 +29,38 @@ pub(crate) struct KnownSide {
     pub rows: Seq<PeerRow>,
 }
 
+impl<'a> OfSource<&'a Estate> for KnownSide {
+    ghost use Rattle.np_command_exposure.specs.steps.Known.{IsKnown};
+
+    ghost IsRight = { λ estate known. IsKnown estate.now known };
+}
+
 /// The texts of the rows of sides that were found. Most sides of a cluster are the same as an earlier one, and to find rows takes
 /// far longer than to see that. Contracts see the lists of the estate.
 pub(crate) struct KnownRows<'a> {
-    alloc: Global,
     estate: &'a Estate,
-    sides: Vec<KnownSide>,
-    // The last place among these of each mark.
-    by_mark: HashMap<u64, usize>,
-    bytes: usize,
+    kept: Kept<&'a Estate, KnownSide>,
 }
 
 // Written out, so that letting one go is one call.
 impl<'a> Drop for KnownRows<'a> {
     fn drop(self) {
         let KnownRows {
-            alloc: _alloc,
             estate: _estate,
-            sides: _sides,
-            by_mark: _by_mark,
-            bytes: _bytes,
+            kept: _kept,
         } = self;
     }
 }
 
 impl<'a> Model for KnownRows<'a> {
-    ghost use Rattle.np_command_exposure.specs.steps.Known.{AreKnown};
+    ghost use Rattle.std.specs.Prelude.{◌≡◌};
     ghost use Rattle.np_model.specs.declared.lists.EstateLists.{EstateLists};
 
     ghost Value = { EstateLists };
 
     ghost view = { λ k. k.estate.now };
 
-    ghost invariant = { λ k. AreKnown k.estate.now k.sides.items };
+    ghost invariant = { λ k. k.kept.now ≡ k.estate.now };
 }
 
 impl<'a> KnownRows<'a> {
@@ -70,11 +69,8 @@ impl<'a> KnownRows<'a> {
         ensures { result ≡ estate.now }
     {
         KnownRows {
-            alloc,
             estate,
-            sides: Vec::new(alloc),
-            by_mark: HashMap::new(alloc),
-            bytes: 0,
+            kept: Kept::new(alloc, estate, MOST_BYTES),
         }
     }
 
@@ -83,8 +79,7 @@ impl<'a> KnownRows<'a> {
         requires { pod < length self.now.pods }
         ensures { IfSome result (λ rows. rows.now ≡ spec.peer_rows (side_of self.now pod direction)) }
     {
-        let place = self.by_mark.get(&mark).copied()?;
-        let known = self.sides.get(place)?;
+        let known = self.kept.find(mark)?;
         if known.direction == direction && is_same_side(self.estate, known.pod, pod, direction) {
             Some(known.rows.items())
         } else {
@@ -106,29 +101,12 @@ impl<'a> KnownRows<'a> {
         ensures { OnOk result (self.new ≡ self.old) }
     {
         let bytes = bytes_of(rows.items());
-        if bytes > MOST_BYTES {
-            return Ok(());
-        }
-        if self.bytes.saturating_add(bytes) > MOST_BYTES {
-            self.forget();
-        }
-        self.bytes = self.bytes.saturating_add(bytes);
-        self.by_mark.insert(mark, self.sides.len())?;
-        self.sides.push(KnownSide {
+        let known = KnownSide {
             pod,
             direction,
             rows,
-        })?;
-        Ok(())
-    }
-
-    // Lets all go that is kept.
-    fn forget(&mut self)
-        ensures { self.new ≡ self.old }
-    {
-        self.sides = Vec::new(self.alloc);
-        self.by_mark = HashMap::new(self.alloc);
-        self.bytes = 0;
+        };
+        self.kept.keep(mark, known, bytes)
     }
 }
 

@@ -3,6 +3,7 @@
 
 mod known_rows;
 mod laws;
+mod light_sides;
 mod report;
 
 pub use laws::workloads_stand_for_their_pods_to_strangers;

@@ -9,6 +9,7 @@ ghost use Rattle.np_report.specs.Prelude.{text_to_come};
 ghost use Rattle.np_kinds.specs.Prelude.{IsWorkload};
 
 use crate::known_rows::{KnownRows, PeerRow, peer_rows};
+use crate::light_sides::LightSides;
 use np_args::Format;
 use np_base::{NoMemory, Seq, Text};
 use np_command::{Failure, Fault, WriteFault, workload_of};
@@ -102,22 +103,35 @@ fn must_be_few(alloc: Global, folded: &Folded, sides: &[ShownSide]) -> Result<()
     requires { All (λ side. IsWorkload folded.now side.workload) sides.now }
     ensures few { Gives result (spec.nothing_unless (spec.first_fault folded.now sides.now)) }
 {
+    let mut light = LightSides::new(alloc, folded.estate());
     for side in sides {
-        must_be_light(alloc, folded, *side)?;
+        must_be_light(alloc, folded, *side, &mut light)?;
     }
     Ok(())
 }
 
-// Refuses a side that has too many patterns.
+// Refuses a side that has too many patterns. It is not weighed where an earlier side that is the same has few.
 #[tactic(auto, unfolding(crate::specs::Report::weight_fault))]
-fn must_be_light(alloc: Global, folded: &Folded, side: ShownSide) -> Result<(), Failure>
-    requires { IsWorkload folded.now side.workload }
-    ensures { Gives result (spec.nothing_unless (spec.weight_fault folded.now side)) }
+fn must_be_light(
+    alloc: Global,
+    folded: &Folded,
+    side: ShownSide,
+    light: &mut LightSides<'_>,
+) -> Result<(), Failure>
+    requires there { IsWorkload folded.now side.workload }
+    requires light { light.old ≡ folded.now }
+    ensures few { Gives result (spec.nothing_unless (spec.weight_fault folded.now side)) }
+    ensures light { light.new ≡ light.old }
 {
     let workloads = folded.workloads();
     let pod = first_place(folded, side.workload);
+    let mark = side_mark(folded.estate(), pod, side.direction);
+    if light.has(pod, side.direction, mark) {
+        return Ok(());
+    }
     let weight = weight(alloc, folded.estate(), pod, side.direction)?;
     if weight <= MOST_PATTERNS {
+        light.keep(pod, side.direction, mark)?;
         return Ok(());
     }
     let workload = Text::of(alloc, workloads.name(side.workload))?;

@@ -1,5 +1,5 @@
 -- What is kept of the rows of sides: their texts without the name of a workload, so that they serve for each side that is the same.
-use Rattle.std.specs.Prelude.{◌≡◌, ◌<◌, ℕ, List, All, length, map}
+use Rattle.std.specs.Prelude.{◌≡◌, ◌<◌, ℕ, List, length, map}
 use Rattle.np_command_exposure.specs.Types.{Direction, Egress, EstateLists, ExposureRow, Ingress, KnownSide, PeerRow, RowText}
 use Rattle.np_conns.specs.Prelude.{conns_text, has_spot}
 use Rattle.np_exposure.specs.Prelude.{peer_text, rows_of}
@@ -21,6 +21,3 @@ named_row name Egress row = record { source = name; destination = row.peer; conn
 pub record IsKnown (lists : EstateLists) (known : KnownSide) : Type 0 where
   pub there : known.pod < length lists.pods
   pub right : known.rows ≡ peer_rows (side_of lists known.pod known.direction)
-
-abbrev pub AreKnown : EstateLists → List KnownSide → Type 0
-AreKnown lists sides = All (IsKnown lists) sides
