@@ -4,9 +4,9 @@ ghost use Rattle.np_rules.specs.Prelude.{side_of};
 ghost use Rattle.np_table.specs.Prelude.{rows_of_addresses, side_with_address};
 
 use np_base::{NoMemory, Seq};
-use np_conns::{ConnSet, Proto};
 use np_fold::Folded;
 use np_kept::{Kept, OfSource};
+use np_kinds::bytes_of_set;
 use np_model::Direction;
 use np_table::AddressRow;
 use std::alloc::Global;
@@ -109,16 +109,7 @@ fn key_of(pod: u32, direction: Direction) -> u64 {
 fn bytes_of(rows: &[AddressRow]) -> usize {
     let mut bytes = 64usize;
     for row in rows {
-        let spans = span_count(&row.conns).saturating_mul(4);
-        bytes = bytes.saturating_add(spans).saturating_add(192);
+        bytes = bytes.saturating_add(bytes_of_set(&row.conns));
     }
     bytes
-}
-
-// How many ranges of ports a set has.
-fn span_count(conns: &ConnSet) -> usize {
-    let tcp = conns.spans(Proto::Tcp).len();
-    let udp = conns.spans(Proto::Udp).len();
-    let sctp = conns.spans(Proto::Sctp).len();
-    tcp.saturating_add(udp).saturating_add(sctp)
 }

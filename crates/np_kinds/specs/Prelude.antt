@@ -4,5 +4,5 @@ unfoldable pub use Rattle.np_kinds.specs.Between.{address_allows, pair_allows}
 pub use Rattle.np_kinds.specs.Ends.{AreOneKind, ArePodsOfOneKind}
 pub use Rattle.np_kinds.specs.Kinds.{AreKnown, IsKindReach, KnownSides, KnowsMore, StayKnown, chosen, first_alike, first_end, first_ends, first_side, kind_side, known_at, known_towards, knows, may_pass, side_allows_pod}
 unfoldable pub use Rattle.np_kinds.specs.Kinds.{IsReach}
-pub use Rattle.np_kinds.specs.Shared.{Answers, AreShared, IsAlike, IsSetToward}
-pub use Rattle.np_kinds.specs.Types.{Address, AdminPeer, AdminPort, Conns, Direction, Egress, EstateLists, Family, Ingress, KindReach, NetPeer, NetPort, NetRule, Pod, PodQuestion, PortSpot, SharedSet}
+pub use Rattle.np_kinds.specs.Shared.{Answers, IsAlike, IsSetToward}
+pub use Rattle.np_kinds.specs.Types.{Address, AdminPeer, AdminPort, Conns, Direction, Egress, EstateLists, Family, Ingress, KindReach, NetPeer, NetPort, NetRule, Pod, PodQuestion, PortSpot}

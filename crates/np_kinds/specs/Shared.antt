@@ -1,6 +1,6 @@
 -- What pods that have the same side share.
-use Rattle.std.specs.Prelude.{ℕ, ◌≡◌, ◌<◌, List, All, length, true}
-use Rattle.np_kinds.specs.Types.{Conns, EstateLists, Family, PodQuestion, PortSpot, SharedSet}
+use Rattle.std.specs.Prelude.{ℕ, ◌≡◌, ◌<◌, length, true}
+use Rattle.np_kinds.specs.Types.{Conns, EstateLists, Family, PodQuestion, PortSpot}
 use Rattle.np_conns.specs.Prelude.{IsConns, has_spot, is_spot}
 use Rattle.np_kinds.specs.Kinds.{side_allows_pod}
 use Rattle.np_rules.specs.Prelude.{AllowTheSame, PodSide, near_pod, pod_at, side_of}
@@ -18,7 +18,3 @@ pub record IsSetToward (side : PodSide) (peer : ℕ) (family : Family) (set : Co
 -- the same of what was asked
 abbrev pub Answers : EstateLists → PodQuestion → Conns → Type 0
 Answers lists asked set = IsSetToward (side_of lists asked.near asked.direction) asked.peer asked.family set
-
--- each of the sets that are kept is what was asked
-abbrev pub AreShared : EstateLists → List SharedSet → Type 0
-AreShared lists sets = All (λ kept. Answers lists kept.asked kept.set) sets

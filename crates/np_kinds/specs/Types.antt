@@ -14,4 +14,3 @@ pub use Rattle.np_model.specs.declared.network_policy.NetRule.{NetRule}
 pub use Rattle.np_model.specs.declared.pod.Pod.{Pod}
 pub use Rattle.np_kinds.specs.declared.kind_reach.KindReach.{KindReach}
 pub use Rattle.np_kinds.specs.declared.shared_sets.PodQuestion.{PodQuestion}
-pub use Rattle.np_kinds.specs.declared.shared_sets.SharedSet.{SharedSet}

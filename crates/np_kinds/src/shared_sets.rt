@@ -2,13 +2,17 @@
 ghost use Rattle.std.specs.Prelude.{◌≡◌, IfSome};
 ghost use Rattle.np_kinds.specs.Shared as spec;
 
+use crate::set_bytes::bytes_of_set;
 use np_addr::Family;
 use np_base::{Cells, NoMemory};
 use np_conns::ConnSet;
+use np_kept::{Kept, OfSource};
 use np_model::{Direction, Estate};
 use std::alloc::Global;
-use std::collections::HashMap;
 use std::marker::Model;
+
+// The sets that are kept take no more bytes, so that those of many pairs do not fill the memory.
+const MOST_BYTES: usize = 32 << 20;
 
 /// What the side of a pod in a direction allows with another pod, in packets of a family. Both are named by their places in
 /// the estate.
@@ -27,34 +31,30 @@ pub(crate) struct SharedSet {
     pub set: ConnSet,
 }
 
+impl<'a> OfSource<&'a Estate> for SharedSet {
+    ghost use Rattle.np_kinds.specs.Shared.{Answers};
+
+    ghost IsRight = { λ estate kept. Answers estate.now kept.asked kept.set };
+}
+
 /// Answers to questions that were asked. Contracts see the lists of the estate.
 pub(crate) struct SharedSets<'a> {
-    estate: &'a Estate,
-    sets: Vec<SharedSet>,
-    // The places of these by the keys of questions.
-    places: HashMap<u64, usize>,
+    kept: Kept<&'a Estate, SharedSet>,
 }
 
 // Written out, so that letting one go is one call.
 impl<'a> Drop for SharedSets<'a> {
     fn drop(self) {
-        let SharedSets {
-            estate: _estate,
-            sets: _sets,
-            places: _places,
-        } = self;
+        let SharedSets { kept: _kept } = self;
     }
 }
 
 impl<'a> Model for SharedSets<'a> {
-    ghost use Rattle.np_kinds.specs.Shared.{AreShared};
     ghost use Rattle.np_model.specs.declared.lists.EstateLists.{EstateLists};
 
     ghost Value = { EstateLists };
 
-    ghost view = { λ s. s.estate.now };
-
-    ghost invariant = { λ s. AreShared s.estate.now s.sets.items };
+    ghost view = { λ s. s.kept.now };
 }
 
 impl<'a> SharedSets<'a> {
@@ -63,9 +63,7 @@ impl<'a> SharedSets<'a> {
         ensures { result ≡ estate.now }
     {
         SharedSets {
-            estate,
-            sets: Vec::new(alloc),
-            places: HashMap::new(alloc),
+            kept: Kept::new(alloc, estate, MOST_BYTES),
         }
     }
 
@@ -73,8 +71,7 @@ impl<'a> SharedSets<'a> {
     pub(crate) fn find(&self, asked: PodQuestion) -> Option<&ConnSet>
         ensures { IfSome result (λ set. spec.Answers self.now asked set.now) }
     {
-        let place = self.places.get(&key_of(asked)).copied()?;
-        let kept = self.sets.get(place)?;
+        let kept = self.kept.find(key_of(asked))?;
         if kept.asked == asked {
             Some(&kept.set)
         } else {
@@ -82,30 +79,20 @@ impl<'a> SharedSets<'a> {
         }
     }
 
-    /// Keeps the answer to a question, in place of the last one with the same key.
+    /// Keeps the answer to a question.
     pub(crate) fn keep(&mut self, asked: PodQuestion, set: &ConnSet) -> Result<(), NoMemory>
         requires { spec.Answers self.old asked set.now }
         ensures { self.new ≡ self.old }
     {
-        let key = key_of(asked);
         let kept = SharedSet {
             asked,
             set: set.copy()?,
         };
-        if let Some(place) = self.places.get(&key).copied() {
-            if place < self.sets.len() {
-                self.sets[place] = kept;
-                return Ok(());
-            }
-        }
-        self.places.insert(key, self.sets.len())?;
-        self.sets.push(kept)?;
-        Ok(())
+        self.kept.keep(key_of(asked), kept, bytes_of_set(set))
     }
 }
 
-// Questions that differ in the far pod alone have one key. Pairs are asked about source by source, so that all receivers are
-// asked about one far pod before the next: of each the last answer is enough.
+// The key of a question. There are fewer pods than two to the thirtieth, so that no two questions have one key.
 fn key_of(asked: PodQuestion) -> u64 {
     let family = match asked.family {
         Family::Four => 0,
@@ -115,5 +102,6 @@ fn key_of(asked: PodQuestion) -> u64 {
         Direction::Ingress => 0,
         Direction::Egress => 2,
     };
-    (u64::from(asked.near) << 2) | direction | family
+    let pods = (u64::from(asked.near) << 32) | u64::from(asked.peer);
+    (pods << 2) | direction | family
 }
