@@ -1,4 +1,4 @@
--- The numbers of kinds: each workload has one, and each kind has a first workload. For `KindReach::is_silent`, `Sides::at` and 4 more.
+-- The numbers of kinds: each workload has one, and each kind has a first workload. For `KindReach::is_silent`, `Sides::at` and 5 more.
 use Rattle.std.proofs.Common.{◌≡◌, ◌<◌, ℕ, Some, length, slice_index, arith, sym, ap, subst, ◌∙◌, slice_get}
 use Rattle.std.proofs.lemmas.List.{length-map}
 use Rattle.std.proofs.lemmas.List.FromFn.{get_or-map-range_with_len, length-range_with_len}

@@ -1,4 +1,4 @@
--- What pods that have the same side share. For `SharedSets::keep` and `SharedSide::pod_set`.
+-- What pods that have the same side share. For `SharedSide::pod_set`.
 use Rattle.std.proofs.Common.{◌≡◌, ap, sym, subst, ◌∙◌}
 use Rattle.np_kinds.specs.Prelude.{Answers, Conns, Direction, EstateLists, IsAlike, IsSetToward, PodQuestion, side_allows_pod}
 use Rattle.np_rules.specs.Prelude.{PodSide, pod, pod_at, side_of}

@@ -1,5 +1,5 @@
 -- The sides of the pods that stand for workloads, and of those that stand for kinds.
--- For `address_rows_at`, `address_rows_by_kind` and 9 more.
+-- For `address_rows_at`, `address_rows_by_kind` and 10 more.
 use Rattle.std.proofs.Common.{◌≡◌, ◌<◌, ◌≤◌, ◌+◌, ◌-◌, ◌*◌, ◌^◌, ℕ, List, [], ◌∷◌, Bool, true, false, ◌&&◌, Some, None, length, lit≤, arith, refl, sym, ap, subst, ◌∙◌, if◌then◌else◌, ◌≢◌, Contains}
 use Rattle.np_table.specs.Prelude.{AreEnds, Direction, Egress, EstateLists, Family, Four, Ingress, PairEnds, PortSpot, Six, address_rows, ends_of, estate_table, most_rules, pair_key, pair_rows, rows_in, rows_of_addresses, side_with_address, table_of}
 use Rattle.np_conns.specs.Prelude.{Conns, IsConns, conns_of, has_spot, is_spot}
