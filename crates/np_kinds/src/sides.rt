@@ -158,7 +158,8 @@ impl<'a> Sides<'a> {
     }
 
     /// The protocols and ports that the rules of a workload's kind in a direction, which were asked for, allow with another pod
-    /// as the far end, which is named by its place in the estate, in packets of a family.
+    /// as the far end, which is named by its place in the estate, in packets of a family. The answer is kept, while there is
+    /// room, for all kinds with the same side. `NoMemory` comes where there is none for the answer, or to keep it.
     pub fn pod_set(
         &mut self,
         direction: Direction,
