@@ -1,4 +1,4 @@
--- Pods that stand for their kinds. For `search_kind` and `search_side`.
+-- Pods that stand for their kinds. For `SameKinds::left`, `is_same_before` and 2 more.
 use Rattle.std.proofs.Common.{◌≡◌, ℕ, ◌<◌, List, false, length, get_or, slice_index, slice_get, Some, refl, sym, ap, ◌∙◌, subst, arith, inr}
 use Rattle.std.proofs.lemmas.List.FromFn.{get_or-map-range_with_len}
 use Rattle.std.proofs.lemmas.Option.{get_or_from_slice_get, slice_get-get_or, slice_get_within}

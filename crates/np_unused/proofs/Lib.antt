@@ -16,6 +16,7 @@ pub mod PrintLemmas
 pub mod PushLemmas
 pub mod QuietLemmas
 pub mod RuleListLemmas
+pub mod SameKindLemmas
 pub mod SearchLemmas
 pub mod StayLemmas
 pub mod StepLemmas

@@ -5,7 +5,7 @@ use Rattle.std.specs.List.{list_any}
 use Rattle.std.specs.Option.{option_map, option_map_or}
 use Rattle.std.proofs.lemmas.Bool.{false≢true, not-false, or_parts}
 use Rattle.std.proofs.lemmas.Option.{slice_get-get_or, slice_get-map, slice_get_within}
-use Rattle.np_unused.specs.Prelude.{AreKindPods, AreKinds, AreRulesOf, Decider, Direction, EstateLists, Family, IsSearch, IsSearchOf, KindPod, Kinds, Knows, KnowsAll, KnowsKind, KnowsSide, LayerRules, RuleName, Search, Searched, UsedRules, are_known, is_asked, may_tell, ref_of, rule_in, rule_name}
+use Rattle.np_unused.specs.Prelude.{AreKindPods, AreKinds, AreRulesOf, Decider, Direction, EstateLists, Family, IsSearch, IsSearchOf, KindPod, Kinds, Knows, KnowsAll, KnowsLeft, KnowsLeftOf, LayerRules, Left, RuleName, Search, Searched, UsedRules, are_known, is_asked, may_tell, ref_of, rule_in, rule_name}
 use Rattle.np_conns.specs.Prelude.{is_spot}
 use Rattle.np_model.specs.Prelude.{IsLawful}
 use Rattle.np_explain.specs.Prelude.{same_rule}
@@ -115,10 +115,10 @@ search_is kinds are near within side is rules of_side =
     })
 
 -- what was found at the side of the pod of a kind
-pub searched_side : (lists : EstateLists) (direction : Direction) (kinds : List KindPod) (near : ℕ) (side : PodSide) → side ≡ side_of lists (pod_of_kind kinds near).pod direction →
-    (old new : UsedRules) → Searched side.lists side.direction (KnowsSide side kinds near) old new → Searched lists direction (KnowsKind lists direction kinds near) old new
-searched_side lists direction kinds near side is old new searched =
+pub searched_side : (lists : EstateLists) (direction : Direction) (kinds : List KindPod) (near : ℕ) (left : Left) (side : PodSide) → side ≡ side_of lists (pod_of_kind kinds near).pod direction →
+    (old new : UsedRules) → Searched side.lists side.direction (KnowsLeft side kinds near left) old new → Searched lists direction (KnowsLeftOf lists direction kinds near left) old new
+searched_side lists direction kinds near left side is old new searched =
     let first = side_of lists (pod_of_kind kinds near).pod direction in
-    searched_as lists direction (KnowsSide first kinds near) (KnowsKind lists direction kinds near) old new
-    (λ known one at. subst (λ (k : KindPod). KnowsSide (side_of lists k.pod direction) kinds near new) (kind_is kinds near one at) known)
-    (subst (λ (s : PodSide). Searched s.lists s.direction (KnowsSide s kinds near) old new) is searched)
+    searched_as lists direction (KnowsLeft first kinds near left) (KnowsLeftOf lists direction kinds near left) old new
+    (λ known one at. subst (λ (k : KindPod). KnowsLeft (side_of lists k.pod direction) kinds near left new) (kind_is kinds near one at) known)
+    (subst (λ (s : PodSide). Searched s.lists s.direction (KnowsLeft s kinds near left) old new) is searched)

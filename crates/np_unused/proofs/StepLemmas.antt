@@ -1,7 +1,7 @@
--- Steps of the search: what was known stays known. For `note_others`, `search_ends` and 5 more.
+-- Steps of the search: what was known stays known. For `SameKinds::left`, `is_same_before` and 9 more.
 use Rattle.std.proofs.Common.{◌≡◌, ℕ, ◌+◌, ◌<◌, ◌≤◌, List, Bool, true, false, below_more, length, get_or, slice_get, Some, sym, ◌∙◌, arith}
 use Rattle.std.proofs.lemmas.Option.{get_or_from_slice_get, slice_get-get_or, slice_get_within}
-use Rattle.np_unused.specs.Prelude.{AreRulesOf, Direction, EstateLists, Family, Grows, IsSound, KindPod, Knows, KnowsAll, KnowsFar, KnowsKind, KnowsPods, KnowsSide, LayerRules, Searched, Tier, UsedRules, all_known, is_known}
+use Rattle.np_unused.specs.Prelude.{AllEnds, AreRulesOf, Direction, EstateLists, Family, Grows, IsSound, KindPod, Knows, KnowsAll, KnowsBefore, KnowsFar, KnowsKind, KnowsLeft, KnowsPods, KnowsSide, LayerRules, Left, OneKind, Searched, Tier, UsedRules, all_known, is_known}
 use Rattle.np_conns.specs.Prelude.{is_spot}
 use Rattle.np_model.specs.Prelude.{IsLawful}
 use Rattle.np_unused.proofs.SearchLemmas.{knows_side}
@@ -62,6 +62,10 @@ knows_kind_grows lists direction kinds near old new grows knows one at =
       pods = λ family of_family. knows_pods_grows side kinds near family old new grows ((knows one at).pods family of_family);
     }
 
+pub knows_before_grows : (lists : EstateLists) (direction : Direction) (kinds : List KindPod) (near : ℕ) (old new : UsedRules) → Grows old new → KnowsBefore lists direction kinds near old →
+    KnowsBefore lists direction kinds near new
+knows_before_grows lists direction kinds near old new grows before kind low = knows_kind_grows lists direction kinds kind old new grows (before kind low)
+
 -- ---- where all rules of a side are known
 
 module _ (side : PodSide) (lawful : IsLawful side.lists) (rules : LayerRules) (are : AreRulesOf side rules) (kinds : List KindPod) (near : ℕ) (used : UsedRules) (answer : Bool)
@@ -70,11 +74,15 @@ module _ (side : PodSide) (lawful : IsLawful side.lists) (rules : LayerRules) (a
   unfolding KnowsPods
   all_pods_known family kind far at asked spot inside = knows_side side lawful rules are used (sym is ∙ all) (with_pod far.pod family side spot)
 
-  pub all_known_of : KnowsSide side kinds near used
+  all_known_of : KnowsSide side kinds near used
   all_known_of = record {
     addresses = λ place inside. knows_side side lawful rules are used (sym is ∙ all) (with_addresses side place);
     pods = λ family of_family. all_pods_known family;
   }
+
+  pub all_left_known : (left : Left) → KnowsLeft side kinds near left used
+  all_left_known AllEnds = all_known_of
+  all_left_known (OneKind kind) = λ family of_family far at asked spot inside. knows_side side lawful rules are used (sym is ∙ all) (with_pod far.pod family side spot)
 
 -- ---- lists that were gone through
 
@@ -83,6 +91,10 @@ pub all_kinds : (side : PodSide) (kinds : List KindPod) (near : ℕ) (family : F
     KnowsPods side kinds near family used
 unfolding KnowsPods
 all_kinds side kinds near family used count all known kind far at asked = known kind (omega (arith, slice_get_within kinds kind far at)) far at asked
+
+-- what is known of one kind in a family, by the family's place in a list
+abbrev pub KnowsOneIn : PodSide → List KindPod → ℕ → ℕ → List Family → ℕ → UsedRules → Type 0
+KnowsOneIn side kinds near kind families k used = (family : Family) → slice_get families k ≡ Some family → KnowsFar side kinds near family kind used
 
 -- what is known of a family, by its place in a list
 abbrev pub KnowsFamily : PodSide → List KindPod → ℕ → List Family → ℕ → UsedRules → Type 0

@@ -24,10 +24,12 @@ pub use Rattle.np_rules.specs.declared.rule_ids.LayerRules.{LayerRules}
 pub use Rattle.np_rules.specs.declared.rule_ids.RuleId.{RuleId}
 pub use Rattle.np_unused.specs.declared.flags.Flags.{Flags}
 pub use Rattle.np_unused.specs.declared.kind_pods.KindPod.{KindPod}
+pub use Rattle.np_unused.specs.declared.kind_pods.Kinds.{Kinds}
 pub use Rattle.np_unused.specs.declared.rule_ref.RuleRef.{RuleRef}
 pub use Rattle.np_unused.specs.declared.rule_ref.Tier.{Tier}
 pub use Rattle.np_unused.specs.declared.rule_ref.Tier.TheVariants.{Admin, Base, Net}
 pub use Rattle.np_unused.specs.declared.rule_spots.RuleSpots.{RuleSpots}
-pub use Rattle.np_unused.specs.declared.search.Kinds.{Kinds}
+pub use Rattle.np_unused.specs.declared.same_kinds.Left.{Left}
+pub use Rattle.np_unused.specs.declared.same_kinds.Left.TheVariants.{AllEnds, OneKind}
 pub use Rattle.np_unused.specs.declared.search.Search.{Search}
 pub use Rattle.np_unused.specs.declared.used_rules.UsedRules.{UsedRules}

@@ -2,4 +2,5 @@
 pub mod Firsts
 pub mod Kinds
 pub mod Known
+pub mod SameKinds
 pub mod Search

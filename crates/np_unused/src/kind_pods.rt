@@ -5,6 +5,8 @@ ghost use Rattle.np_unused.specs.steps.Kinds.{AreKindPods, AreKindPodsOf, pod_ki
 use np_base::NoMemory;
 use np_fold::Folded;
 use np_kinds::first_place;
+use np_model::{Direction, Estate};
+use np_reach::Reach;
 use std::alloc::Global;
 
 /// The first pod of the first workload of a kind, and whether the kind has another pod. No rule tells pods of one kind
@@ -13,6 +15,17 @@ use std::alloc::Global;
 pub struct KindPod {
     pub pod: u32,
     pub is_shared: bool,
+}
+
+/// The kinds of workloads of a cluster in a direction: the pods that stand for them, and which of them the side of each may
+/// let through at all.
+#[derive(Clone, Copy)]
+pub(crate) struct Kinds<'e, 'p> {
+    pub alloc: Global,
+    pub estate: &'e Estate,
+    pub direction: Direction,
+    pub pods: &'p [KindPod],
+    pub reach: &'e Reach,
 }
 
 /// Such a pod for each kind of workloads, by the kind's number.

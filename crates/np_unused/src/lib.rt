@@ -10,6 +10,7 @@ mod laws;
 mod print;
 mod rule_ref;
 mod rule_spots;
+mod same_kinds;
 mod search;
 mod unused;
 mod used_rules;

@@ -3,32 +3,23 @@ ghost use Rattle.std.specs.Prelude.{◌≡◌, ◌<◌, Some, slice_get, length,
 ghost use Rattle.std.specs.List.{Contains};
 ghost use Rattle.np_unused.specs.declared.kind_pods.KindPod.{KindPod as SpecPod};
 ghost use Rattle.np_unused.specs.steps.Kinds.{is_asked};
-ghost use Rattle.np_unused.specs.steps.Search.{AreKinds, Finds, IsSearch, KnowsAll, KnowsFamilies, KnowsFar, KnowsKind, KnowsPods, KnowsSide, Searched, may_tell};
+ghost use Rattle.np_unused.specs.steps.SameKinds.{IsLeft};
+ghost use Rattle.np_unused.specs.steps.Search.{AreKinds, Finds, IsSearch, IsWithin, KnowsAll, KnowsBefore, KnowsFamilies, KnowsFar, KnowsKind, KnowsLeft, KnowsLeftOf, KnowsPods, KnowsToward, Searched, may_tell};
 ghost use Rattle.np_model.specs.Prelude.{families_of};
 ghost use Rattle.np_reach.specs.Prelude.{reach_of};
 ghost use Rattle.np_rules.specs.Prelude.{is_address_spot, with_addresses};
 ghost use Rattle.np_kinds.specs.Prelude.{first_ends};
 
-use crate::kind_pods::{KindPod, kind_pods};
+use crate::kind_pods::{KindPod, Kinds, kind_pods};
+use crate::same_kinds::{Left, SameKinds};
 use crate::used_rules::{UsedRules, has_each};
 use np_addr::Family;
 use np_base::NoMemory;
 use np_fold::Folded;
-use np_model::{Direction, Estate};
+use np_model::Direction;
 use np_reach::Reach;
 use np_rules::{LayerRules, PodRules};
 use std::alloc::Global;
-
-/// The kinds of workloads of a cluster in a direction: the pods that stand for them, and which of them the side of each may
-/// let through at all.
-#[derive(Clone, Copy)]
-pub(crate) struct Kinds<'e, 'p> {
-    pub alloc: Global,
-    pub estate: &'e Estate,
-    pub direction: Direction,
-    pub pods: &'p [KindPod],
-    pub reach: &'e Reach,
-}
 
 /// The side of the pod that stands for a kind, and the rules that speak of that pod.
 #[derive(Clone, Copy)]
@@ -54,7 +45,8 @@ impl Search<'_, '_, '_> {
 }
 
 /// The rules of a direction that are used, by what the first pods of the kinds may let through. The rules of each kind of
-/// pods are looked at with all addresses as far ends, and then with each kind, until all of them are known.
+/// pods are looked at with all addresses as far ends, and then with each kind, until all of them are known. Of kinds whose
+/// pods have the same side the first one tells nearly all.
 pub(crate) fn used_rules(
     alloc: Global,
     folded: &Folded,
@@ -73,18 +65,45 @@ pub(crate) fn used_rules(
         reach,
     };
     let mut used = UsedRules::none(alloc);
+    let mut same = SameKinds::none(alloc);
     for near in 0..pods.len() {
-        search_side(&kinds, near, &mut used)?;
+        search_near(&kinds, near, &mut same, &mut used)?;
     }
     Ok(used)
 }
 
-// Looks for the rules of the pod that stands for a kind.
-fn search_side(kinds: &Kinds<'_, '_>, near: usize, used: &mut UsedRules) -> Result<(), NoMemory>
+// Looks for the rules of the pod that stands for a kind, after those of the kinds before it.
+fn search_near(
+    kinds: &Kinds<'_, '_>,
+    near: usize,
+    same: &mut SameKinds,
+    used: &mut UsedRules,
+) -> Result<(), NoMemory>
     requires kinds { AreKinds kinds.now }
     requires near { near < length kinds.now.pods.now }
+    requires before { KnowsBefore kinds.now.estate.now kinds.now.direction kinds.now.pods.now near used.old }
     ensures { OnOk result (Searched kinds.now.estate.now kinds.now.direction
         (KnowsKind kinds.now.estate.now kinds.now.direction kinds.now.pods.now near) used.old used.new) }
+{
+    let left = same.left(kinds, near)?;
+    match left {
+        Some(ends) => search_side(kinds, near, ends, used),
+        None => Ok(()),
+    }
+}
+
+// Looks for the rules of the pod that stands for a kind with the far ends that are left.
+fn search_side(
+    kinds: &Kinds<'_, '_>,
+    near: usize,
+    left: Left,
+    used: &mut UsedRules,
+) -> Result<(), NoMemory>
+    requires kinds { AreKinds kinds.now }
+    requires near { near < length kinds.now.pods.now }
+    requires left { IsWithin (length kinds.now.pods.now) left }
+    ensures { OnOk result (Searched kinds.now.estate.now kinds.now.direction
+        (KnowsLeftOf kinds.now.estate.now kinds.now.direction kinds.now.pods.now near left) used.old used.new) }
 {
     let pod = kinds.pods[near].pod;
     let side = PodRules::of(kinds.alloc, kinds.estate, pod, kinds.direction)?;
@@ -95,20 +114,31 @@ fn search_side(kinds: &Kinds<'_, '_>, near: usize, used: &mut UsedRules) -> Resu
         side: &side,
         rules: &rules,
     };
-    search_ends(&search, used)
+    search_ends(&search, left, used)
 }
 
-// Looks for the rules of a side with all far ends, unless all are known.
-fn search_ends(search: &Search<'_, '_, '_>, used: &mut UsedRules) -> Result<(), NoMemory>
-    requires { IsSearch search.now }
+// Looks for the rules of a side with the far ends that are left, unless all are known.
+fn search_ends(
+    search: &Search<'_, '_, '_>,
+    left: Left,
+    used: &mut UsedRules,
+) -> Result<(), NoMemory>
+    requires search { IsSearch search.now }
+    requires left { IsWithin (length search.now.kinds.pods.now) left }
     ensures { OnOk result (Searched search.now.side.now.lists search.now.side.now.direction
-        (KnowsSide search.now.side.now search.now.kinds.pods.now search.now.near) used.old used.new) }
+        (KnowsLeft search.now.side.now search.now.kinds.pods.now search.now.near left) used.old used.new) }
 {
     if used.has_all(search.rules) {
         return Ok(());
     }
-    search_addresses(search, used)?;
-    search_families(search, search.kinds.estate.families(), used)
+    let families = search.kinds.estate.families();
+    match left {
+        Left::AllEnds => {
+            search_addresses(search, used)?;
+            search_families(search, families, used)
+        }
+        Left::OneKind(kind) => search_toward(search, kind, families, used),
+    }
 }
 
 // Looks for the rules of a side with all addresses as far ends.
@@ -134,6 +164,25 @@ fn search_families(
 {
     for family in families {
         search_pods(search, *family, used)?;
+    }
+    Ok(())
+}
+
+// Looks for the rules of a side with the pod of one kind as the far end, in packets of the families of the estate.
+fn search_toward(
+    search: &Search<'_, '_, '_>,
+    kind: usize,
+    families: &[Family],
+    used: &mut UsedRules,
+) -> Result<(), NoMemory>
+    requires search { IsSearch search.now }
+    requires kind { kind < length search.now.kinds.pods.now }
+    requires families { families.now ≡ families_of search.now.side.now.lists.pods }
+    ensures { OnOk result (Searched search.now.side.now.lists search.now.side.now.direction
+        (KnowsToward search.now.side.now search.now.kinds.pods.now search.now.near kind) used.old used.new) }
+{
+    for family in families {
+        search_kind(search, kind, *family, used)?;
     }
     Ok(())
 }

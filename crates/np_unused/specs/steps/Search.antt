@@ -1,7 +1,7 @@
 -- What a search for used rules has found.
 use Rattle.std.specs.Prelude.{◌≡◌, ℕ, ◌<◌, List, Bool, true, ◌&&◌, ◌||◌, not, Some, slice_get}
 use Rattle.std.specs.List.{Contains}
-use Rattle.np_unused.specs.Types.{Decider, Direction, Egress, EstateLists, Family, Ingress, KindPod, Kinds, LayerRules, RuleRef, Search, Tier, UsedRules}
+use Rattle.np_unused.specs.Types.{AllEnds, Decider, Direction, Egress, EstateLists, Family, Ingress, KindPod, Kinds, LayerRules, Left, OneKind, RuleRef, Search, Tier, UsedRules}
 use Rattle.np_conns.specs.Prelude.{is_spot}
 use Rattle.np_model.specs.Prelude.{IsLawful, families_of}
 use Rattle.np_explain.specs.Prelude.{admin_rules, base_rules, net_rules}
@@ -80,9 +80,26 @@ pub record KnowsSide (side : PodSide) (kinds : List KindPod) (near : ℕ) (used 
   pub addresses : KnowsAll is_address_spot side with_addresses used
   pub pods : KnowsFamilies side kinds near used
 
+-- with one kind alone
+abbrev pub KnowsToward : PodSide → List KindPod → ℕ → ℕ → UsedRules → Type 0
+KnowsToward side kinds near kind used = (family : Family) → Contains (families_of side.lists.pods) family → KnowsFar side kinds near family kind used
+
+-- with the far ends that were left to be looked at
+abbrev pub KnowsLeft : PodSide → List KindPod → ℕ → Left → UsedRules → Type 0
+KnowsLeft side kinds near AllEnds used = KnowsSide side kinds near used
+KnowsLeft side kinds near (OneKind kind) used = KnowsToward side kinds near kind used
+
 -- so it is for the side of the pod that stands for a kind
+abbrev pub KnowsLeftOf : EstateLists → Direction → List KindPod → ℕ → Left → UsedRules → Type 0
+KnowsLeftOf lists direction kinds near left used = (one : KindPod) → slice_get kinds near ≡ Some one → KnowsLeft (side_of lists one.pod direction) kinds near left used
+
+-- with all far ends
 abbrev pub KnowsKind : EstateLists → Direction → List KindPod → ℕ → UsedRules → Type 0
 KnowsKind lists direction kinds near used = (one : KindPod) → slice_get kinds near ≡ Some one → KnowsSide (side_of lists one.pod direction) kinds near used
+
+-- for the kinds before it
+abbrev pub KnowsBefore : EstateLists → Direction → List KindPod → ℕ → UsedRules → Type 0
+KnowsBefore lists direction kinds near used = (kind : ℕ) → kind < near → KnowsKind lists direction kinds kind used
 
 -- for all kinds
 unfoldable pub KnowsSides : EstateLists → Direction → List KindPod → UsedRules → Type 0
@@ -108,6 +125,11 @@ pub record IsSearchOf (estate : EstateLists) (side : PodSide) (pods : List KindP
 
 abbrev pub IsSearch : Search → Type 0
 IsSearch search = IsSearchOf search.kinds.estate.now search.side.now search.kinds.pods.now search.kinds.reach.now search.near search.rules.now
+
+-- the kind that is left, if it is one, is one of so many
+abbrev pub IsWithin : ℕ → Left → Type 0
+IsWithin count AllEnds = Unit {0}
+IsWithin count (OneKind kind) = kind < count
 
 -- Whether a kind may tell of a rule that is not known: it is asked for, and may be let through, or there are admin
 -- rules that are not known.

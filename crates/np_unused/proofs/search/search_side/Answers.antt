@@ -15,13 +15,13 @@ of-requires c =
 pub names-requires : goal.names-requires
 names-requires c = record { few = subst (λ (side : PodSide). IsFew side.lists) (sym c.in_ok-side.ensures) c.requires.kinds.lawful.few }
 
-pub search_ends-requires : goal.search_ends-requires
-search_ends-requires c = search_is c.args.kinds.now c.requires.kinds c.args.near c.requires.near c.in_ok-side.side c.in_ok-side.ensures c.in_ok-rules.rules
+pub search_ends-requires-clause-search : goal.search_ends-requires-clause-search
+search_ends-requires-clause-search c = search_is c.args.kinds.now c.requires.kinds c.args.near c.requires.near c.in_ok-side.side c.in_ok-side.ensures c.in_ok-rules.rules
     (record { admin = c.in_ok-rules.ensures.admin; net = c.in_ok-rules.ensures.net; base = c.in_ok-rules.ensures.base })
 
 pub returns : goal.returns
 returns c =
     IfOk-weaker c.search_ends.result _ _
-    (λ _ searched. searched_side c.args.kinds.now.estate.now c.args.kinds.now.direction c.args.kinds.now.pods.now c.args.near c.in_ok-side.side c.in_ok-side.ensures c.args.used.now
+    (λ _ searched. searched_side c.args.kinds.now.estate.now c.args.kinds.now.direction c.args.kinds.now.pods.now c.args.near c.args.left c.in_ok-side.side c.in_ok-side.ensures c.args.used.now
     c.search_ends.new.used searched)
     c.search_ends.ensures
