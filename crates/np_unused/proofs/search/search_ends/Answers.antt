@@ -20,8 +20,8 @@ search_families-requires-clause-families c = c.families-families.ensures ∙ ap 
 pub search_toward-requires-clause-families : goal.search_toward-requires-clause-families
 search_toward-requires-clause-families c = c.families-families.ensures ∙ ap (λ (lists : EstateLists). families_of lists.pods) c.requires.search.estate_is
 
-pub returns-in-AllEnds : goal.returns-in-AllEnds
-returns-in-AllEnds c =
+pub returns-in_ok-search_addresses-in-AllEnds : goal.returns-in_ok-search_addresses-in-AllEnds
+returns-in_ok-search_addresses-in-AllEnds c =
     let side = c.args.search.now.side.now in
     let kinds = c.args.search.now.kinds.pods.now in
     let near = c.args.search.now.near in
@@ -30,7 +30,7 @@ returns-in-AllEnds c =
     rw c.in-AllEnds.is (IfOk-weaker c.search_families.result _ _
     (λ _ later. searched_both side.lists side.direction (KnowsAll is_address_spot side with_addresses) (KnowsFamilies side kinds near) (KnowsLeft side kinds near AllEnds) c.args.used.now middle new
     (λ grows addresses pods. record { addresses = knows_all_grows is_address_spot side with_addresses middle new grows addresses; pods = pods })
-    c.in_ok-search_addresses.ensures later)
+    c.in_ok-search_addresses-in-AllEnds.ensures later)
     c.search_families.ensures)
 
 pub returns-in-OneKind : goal.returns-in-OneKind
