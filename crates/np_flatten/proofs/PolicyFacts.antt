@@ -1,4 +1,4 @@
--- The parts of a flat policy, as they are made. For `Flat::add_rule_from` and `Flat::policy`.
+-- The parts of a flat policy, as they are made. For `Flat::add_rule_from`, `Flat::policy` and `Flat::rule_of`.
 use Rattle.std.proofs.Common.{◌≡◌, ℕ, List, [], ◌∷◌, Bool, false, Option, Some, Result, Ok, Err, OnOk, if◌then◌else◌, sym, ap, ◌∙◌}
 use Rattle.np_conns.specs.Prelude.{Conns}
 use Rattle.np_flatten.specs.Prelude.{EstateLists, NetPeer, NetPolicy, NetPort, NetRule, Pods, Selector, egress_rules, first_of_group, flat_name, flat_policy, group_peer, ingress_rules, namespace_named, ports_of, relevant, rules_from_group, rules_of_set, selector_of_keys, set_from}
