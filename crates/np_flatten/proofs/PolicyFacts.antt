@@ -18,7 +18,8 @@ end-is lists folded group first e same is at = at ∙ ap (λ (l : EstateLists). 
 -- the rule that lets a set pass from the pods of a group
 pub rule-made : (lists folded : EstateLists) (sender first : ℕ) (set : Conns) (e : PodEnd) (keys : List (List ℕ)) (peer : NetPeer) (peers : List NetPeer) (ports : List NetPort) → folded ≡ lists →
     first ≡ first_of_group lists sender → e ≡ first_end folded first → keys ≡ relevant lists → peer ≡ Pods (Some (namespace_named e.namespace)) (Some (selector_of_keys keys e.labels)) →
-    peers ≡ peer ∷ [] → ports ≡ ports_of set → record { peers = peers; ports = ports } ≡ record { peers = group_peer lists sender ∷ []; ports = ports_of set }
+    peers ≡ peer ∷ [] → ports ≡ ports_of set →
+    ◌≡◌ {A = NetRule} (record { peers = peers; ports = ports }) (record { peers = group_peer lists sender ∷ []; ports = ports_of set })
 rule-made lists folded sender first set e keys peer peers ports same is at keys_are peer_is peers_are ports_are =
     let one : e ≡ first_end lists (first_of_group lists sender) = end-is lists folded sender first e same is at in
     let of_end : PodEnd → NetPeer = λ p. Pods (Some (namespace_named p.namespace)) (Some (selector_of_keys (relevant lists) p.labels)) in

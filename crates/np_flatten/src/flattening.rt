@@ -18,7 +18,7 @@ use std::alloc::Global;
 /// `Split` comes exactly where what may pass between two workloads differs between the families of the list, with the first
 /// such two by the source and then by the destination. `Alike` comes exactly where nothing is split and two workloads of one
 /// group differ, with the first such two by the lesser number and then by the greater. What may pass is read off the
-/// rows of the table one by one, and asked of the rules anew where workloads of one group are compared; no table of it is held.
+/// rows of the table one by one, and asked of the rules of kinds where workloads of one group are compared; no table of it is held.
 #[tactic(auto, unfolding(crate::specs::Faults::flat_fault))]
 pub fn flatten<'a>(alloc: Global, folded: &'a Folded) -> Result<Flat<'a>, FlatFault>
     ensures flat { IfOk result (λ flat. flat ≡ folded.now) }

@@ -1,4 +1,4 @@
-use Rattle.std.proofs.Common.{◌++◌, List, ap, ◌∙◌}
+use Rattle.std.proofs.Common.{◌++◌, List, sym, ap, ◌∙◌}
 use Rattle.np_flatten.specs.Prelude.{NetRule}
 use Rattle.np_flatten.proofs.PolicyFacts.{on_ok, rule-is}
 use Rattle.np_flatten.proofs.flat.Flat.add_rule_from.Goals as goal
