@@ -9,7 +9,7 @@ use np_base::NoMemory;
 use np_fold::Folded;
 use np_kinds::{KindReach, Sides, first_side};
 use np_model::Direction;
-use np_table::{address_rows_by_kind, set_by_kinds};
+use np_table::{address_rows_by_kind, pod_for_addresses, set_by_kinds};
 use std::alloc::Global;
 use std::process::Abort;
 
@@ -37,6 +37,10 @@ pub fn expect_kinds(rt: &impl Abort, alloc: Global, folded: &Folded)
     expect_right(rt, are_sides_right(&mut sides), "the rules of kinds");
     let set = is_set_right(alloc, &mut sides);
     expect_right(rt, set, "the set of a pair, by kinds");
+    let kept = is_set_right(alloc, &mut sides);
+    expect_right(rt, kept, "the same of sets that are kept");
+    let pod = is_address_pod_right(&mut sides);
+    expect_right(rt, pod, "the pod for the rows of addresses");
     let ranges = are_ranges_right_by_kind(alloc, &mut sides);
     expect_right(rt, ranges, "the rows of addresses, by kinds");
 }
@@ -59,6 +63,15 @@ fn is_set_right(alloc: Global, sides: &mut Sides<'_>) -> Result<bool, NoMemory>
 {
     let conns = set_by_kinds(sides, 0, 1, Family::Four)?;
     are_conns(alloc, &conns, PAIR)
+}
+
+// The pod `c` stands for the one that sends, and no other pod was found with the same side.
+fn is_address_pod_right(sides: &mut Sides<'_>) -> Result<bool, NoMemory>
+    requires { number_of_workloads sides.old.lists ≡ 2 }
+    ensures { sides.new.lists ≡ sides.old.lists }
+{
+    let pod = pod_for_addresses(sides, 0, Direction::Egress)?;
+    Ok(pod == 2)
 }
 
 fn are_ranges_right_by_kind(alloc: Global, sides: &mut Sides<'_>) -> Result<bool, NoMemory>

@@ -10,6 +10,8 @@ mod gathered;
 #[cfg(test)]
 mod io;
 #[cfg(test)]
+mod kept;
+#[cfg(test)]
 mod labels;
 #[cfg(test)]
 mod pieces;
