@@ -1,5 +1,5 @@
 -- What a run leaves, from why it ends as it does. For `np_main`.
-use Rattle.std.proofs.Common.{◌≡◌, ℕ, List, [], ◌∷◌, ◌++◌, Bool, true, false, Option, Some, None, Result, Ok, Err, refl, sym, ap, subst, ◌∙◌, inl, inr}
+use Rattle.std.proofs.Common.{◌≡◌, ◌<◌, ℕ, List, length, [], ◌∷◌, ◌++◌, Bool, true, false, Option, Some, None, Result, Ok, Err, refl, sym, ap, subst, ◌∙◌, inl, inr}
 use Rattle.std.specs.Io.KnownBytes.{append_known}
 use Rattle.std.specs.Prelude.{◌⊎◌}
 use Rattle.np_io.specs.Prelude.{TookFront, TookLess}
@@ -71,12 +71,13 @@ none-left (x ∷ front) rest parts = cc
 
 -- of nothing, nothing was taken
 took-none : (old new : Option (List ℕ)) → TookLess old new [] → new ≡ old
-took-none old new less = less.took.taken ∙ ap (append_known old) (none-left less.took.front less.took.rest less.took.parts) ∙ append_known-nil old
+took-none old new less = less.taken ∙ ap (append_known old) (none-left less.front less.rest less.parts) ∙ append_known-nil old
 
 -- what want of memory may leave of told bytes
 abbrev LeftLess : Run → List (List ℕ) → Type 0
 LeftLess run texts = (run.out.after ≡ run.out.before)
-    ⊎ ((job : Job) × (text : List ℕ) × (run.asked ≡ Some job) × IsReportOn job texts run.out text × TookLess run.out.before run.out.after text)
+    ⊎ ((job : Job) × (text : List ℕ) × (run.asked ≡ Some job) × IsReportOn job texts run.out text
+    × (took : TookFront run.out.before run.out.after text) × (0 < length text → 0 < length took.rest))
 
 took-nothing : (run : Run) (texts : List (List ℕ)) (text : List ℕ) → text ≡ [] → TookLess run.out.before run.out.after text → LeftLess run texts
 took-nothing run texts text none less = inl (took-none run.out.before run.out.after (subst (TookLess run.out.before run.out.after) none less))
@@ -103,7 +104,8 @@ job-less run job texts asked less = by (is_too_large texts) refl (refusal job te
     by : (large : Bool) → is_too_large texts ≡ large → (found : Option Fault) → refusal job texts ≡ found → LeftLess run texts
     by true large found is = took-nothing run texts (output (Some job) texts) (large-text job texts large) less
     by false large (Some fault) is = took-nothing run texts (output (Some job) texts) (faulty-text job texts fault large is) less
-    by false large None is = inr (job, output (Some job) texts, asked, report-on job texts run.out large is, less)
+    by false large None is =
+        inr (job, output (Some job) texts, asked, report-on job texts run.out large is, record { front = less.front; rest = less.rest; parts = less.parts; taken = less.taken }, less.less)
 
 left-less : (run : Run) (texts : List (List ℕ)) → TookLess run.out.before run.out.after (output run.asked texts) → LeftLess run texts
 left-less run texts less = by run.asked refl

@@ -1,7 +1,7 @@
 -- What a run leaves of its inputs and of the report's sink, by how it ends.
-use Rattle.std.specs.Prelude.{◌≡◌, ℕ, ◌⊎◌, List, false, Some, Result, Ok, Err}
+use Rattle.std.specs.Prelude.{◌≡◌, ◌<◌, ℕ, ◌⊎◌, List, length, false, Some, Result, Ok, Err}
 use Rattle.std.specs.Io.KnownBytes.{append_known}
-use Rattle.np_io.specs.Prelude.{Rose, TookFront, TookLess}
+use Rattle.np_io.specs.Prelude.{Rose, TookFront}
 use Rattle.np_cli.specs.Messages.{message}
 use Rattle.np_cli.specs.Runs.{AskedNothing, KnowsBytes, ReadTooMuch, Run, StoppedReading}
 use Rattle.np_frame.specs.Prelude.{BeganFront, ReadOnce, input_names, inputs_of, is_too_large, names_asked}
@@ -97,7 +97,8 @@ pub record StoppedWriting (run : Run) : Type 0 where
 pub record LackedMemory (run : Run) : Type 0 where
   pub began : BeganFront run.source (names_asked run.asked)
   pub less : (texts : List (List ℕ)) → KnowsBytes run texts → (run.out.after ≡ run.out.before)
-      ⊎ ((job : Job) × (text : List ℕ) × (run.asked ≡ Some job) × IsReportOn job texts run.out text × TookLess run.out.before run.out.after text)
+      ⊎ ((job : Job) × (text : List ℕ) × (run.asked ≡ Some job) × IsReportOn job texts run.out text
+      × (took : TookFront run.out.before run.out.after text) × (0 < length text → 0 < length took.rest))
 
 -- What a run that ends so leaves.
 abbrev pub Leaves : Run → Result Ending Failure → Type 0

@@ -45,15 +45,14 @@ TookFront-after old middle new first second wrote took = record {
 
 -- a sink that took nothing took less than all
 pub TookLess-none : (known : Option (List ℕ)) (bytes : List ℕ) → TookLess known known bytes
-TookLess-none known bytes = record { took = record { front = []; rest = bytes; parts = refl; taken = sym (append_known-nil known) }; less = λ some. some }
+TookLess-none known bytes = record { front = []; rest = bytes; parts = refl; taken = sym (append_known-nil known); less = λ some. some }
 
 -- so a sink that took all, and tells it, did not take less
 pub TookLess-not_all : (before : List ℕ) (new : Option (List ℕ)) (bytes : List ℕ) → TookLess (Some before) new bytes → new ≡ append_known (Some before) bytes → 0 < length bytes → ⊥
 TookLess-not_all before new bytes less all some =
-    let took = less.took in
-    let known : Some (before ++ bytes) ≡ Some (before ++ took.front) = sym all ∙ took.taken in
-    let same : before ++ bytes ≡ before ++ took.front = cc in
-    omega (arith, ap length same, length-append before bytes, length-append before took.front, ap length took.parts, length-append took.front took.rest, less.less some)
+    let known : Some (before ++ bytes) ≡ Some (before ++ less.front) = sym all ∙ less.taken in
+    let same : before ++ bytes ≡ before ++ less.front = cc in
+    omega (arith, ap length same, length-append before bytes, length-append before less.front, ap length less.parts, length-append less.front less.rest, less.less some)
 
 -- where anything is left, something is left of a piece, or of what stands behind it
 some_left : (whole held piece rest held' : List ℕ) → (0 < length whole → 0 < length (held ++ (piece ++ rest))) → (0 < length (held ++ piece) → 0 < length held') →
@@ -80,7 +79,7 @@ TookAllBut-last old middle new held first last took takes some = record {
 
 -- what it took so far is less than all
 pub TookAllBut-less : (old new : Option (List ℕ)) (bytes left : List ℕ) → TookAllBut old new bytes left → TookLess old new bytes
-TookAllBut-less old new bytes left took = record { took = record { front = took.front; rest = left; parts = took.parts; taken = took.taken }; less = took.less }
+TookAllBut-less old new bytes left took = record { front = took.front; rest = left; parts = took.parts; taken = took.taken; less = took.less }
 
 -- a piece is put: what is then held stands before what is still to come
 pub TookAllBut-put : (old middle new : Option (List ℕ)) (bytes held piece held' rest : List ℕ) → TookAllBut old middle bytes (held ++ (piece ++ rest)) → TookAllBut middle new (held ++ piece) held' →
@@ -114,6 +113,5 @@ TookAllBut-put_fault old middle new bytes held piece rest took fault =
 pub TookAllBut-put_less : (old middle new : Option (List ℕ)) (bytes held piece rest : List ℕ) → TookAllBut old middle bytes (held ++ (piece ++ rest)) → TookLess middle new (held ++ piece) →
     TookLess old new bytes
 TookAllBut-put_less old middle new bytes held piece rest took less =
-    let first = less.took in
-    let put : TookAllBut middle new (held ++ piece) first.rest = record { front = first.front; parts = first.parts; taken = first.taken; less = less.less } in
-    TookAllBut-less old new bytes (first.rest ++ rest) (TookAllBut-put old middle new bytes held piece first.rest rest took put)
+    let put : TookAllBut middle new (held ++ piece) less.rest = record { front = less.front; parts = less.parts; taken = less.taken; less = less.less } in
+    TookAllBut-less old new bytes (less.rest ++ rest) (TookAllBut-put old middle new bytes held piece less.rest rest took put)

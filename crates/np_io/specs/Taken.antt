@@ -11,8 +11,11 @@ pub record TookFront (old new : Option (List ℕ)) (bytes : List ℕ) : Type 0 w
 
 -- The sink took a front of the bytes, where it tells what it took, and not all of them, unless there are none.
 pub record TookLess (old new : Option (List ℕ)) (bytes : List ℕ) : Type 0 where
-  pub took : TookFront old new bytes
-  pub less : 0 < length bytes → 0 < length took.rest
+  pub front : List ℕ
+  pub rest : List ℕ
+  pub parts : bytes ≡ front ++ rest
+  pub taken : new ≡ append_known old front
+  pub less : 0 < length bytes → 0 < length rest
 
 -- The sink took all of the bytes but the last ones, `left`, where it tells what it took. There are such, unless there are no
 -- bytes at all.
