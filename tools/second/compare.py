@@ -31,8 +31,8 @@ from collections import deque
 from typing import Any, Deque, Dict, Iterable, Iterator, List, NamedTuple, Optional, Tuple
 
 HERE = os.path.dirname(os.path.abspath(__file__))
-# How many seconds np may take, and on how many cases it runs at once.
-TIMEOUT = 120
+# How many seconds np may take, also where it is np.wasm and a machine has much else to do, and on how many cases it runs at once.
+TIMEOUT = 600
 AT_ONCE = 3
 
 

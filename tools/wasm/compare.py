@@ -1,14 +1,23 @@
 #!/usr/bin/env python3
 """Runs the stored cases and the transcripts through np.wasm, in a browser or in Node, and compares every byte with what is wanted.
 
-tools/wasm/compare.py [--wasm FILE] chromium|firefox-esr|node [CASE..]
+tools/wasm/compare.py [--wasm FILE] chromium|firefox-esr|node|node-kept [CASE..]
+tools/wasm/compare.py [--wasm FILE] chromium|firefox-esr|node-kept --lists N
 
 The cases are those that run the program; of the others each is named below, with what it needs. All transcripts are one of them. `./test`
-runs them: on np-wasm in the place of dist/np, which runs np.wasm in Node, or on tools/wasm/through, which hands each run to the browser, by
-a server of this tool.
+runs them, on another program in the place of dist/np:
+
+chromium, firefox-esr  tools/wasm/through, which hands each run to workers of a page in the browser, by a server of this tool
+node                   np-wasm, as users have it: each run begins a Node, which opens the files itself, and takes a fifth of a second
+node-kept              tools/wasm/through, which hands each run to one Node, whose workers do what those of the page do: for thousands of
+                       runs, which take a third of the time so; files and words are then read by Python, and not by np-wasm
+
+With --lists np.wasm is compared with the second program (tools/second) instead, on so many random lists, without any stand-in: for a browser,
+or a Node that is kept.
 """
 from __future__ import annotations
 
+import binascii
 import json
 import os
 import queue
@@ -20,11 +29,11 @@ import threading
 from contextlib import contextmanager
 from http.server import BaseHTTPRequestHandler, ThreadingHTTPServer
 from pathlib import Path
-from typing import Any, Callable, ContextManager, Dict, Iterator, List, NamedTuple
+from typing import Any, Callable, ContextManager, Dict, Iterator, List, NamedTuple, Optional, Tuple
 
 HERE = Path(os.path.abspath(__file__)).parent
 TOP = HERE.parent.parent
-_USAGE = "usage: tools/wasm/compare.py [--wasm FILE] chromium|firefox-esr|node [CASE..]"
+_USAGE = "usage: tools/wasm/compare.py [--wasm FILE] chromium|firefox-esr|node|node-kept [CASE.. | --lists N]"
 
 # What browsers are started with. The profile is a new folder, so that nothing of the machine's own is read.
 _BROWSERS = {
@@ -33,7 +42,7 @@ _BROWSERS = {
     "firefox-esr": ["firefox-esr", "--headless", "--no-remote", "--profile", "%s"],
 }
 
-# Cases that run the program and are about what np.wasm has not; the first of them no browser has.
+# Cases that run the program and are about what np.wasm has not; the first of them np-wasm alone has.
 _BOUND_ON_FILES = "a-cut-report-is-its-beginning"
 # It has a `node` of its own on the path, which np-wasm would take for Node, without end.
 _ANOTHER_NODE = "np-on-another-system"
@@ -48,8 +57,14 @@ _NOT_HERE = {
     "transcripts-that-are-false": "tools/transcripts.py itself",
 }
 
+_NODE, _NODE_KEPT = "node", "node-kept"
 _WORKER = ["page/ask/host.js", "page/ask/given.js", "tools/wasm/loop.js"]
 _PAGE = "<!DOCTYPE html><title>np.wasm</title><script>for (let i = 0; i < %d; i += 1) new Worker('/worker.js');</script>"
+
+
+def coded(data: bytes) -> str:
+    """Bytes as base64."""
+    return binascii.b2a_base64(data, newline=False).decode("ascii")
 
 
 class Runs:
@@ -71,9 +86,34 @@ class Runs:
         self.waiting.put(run)
         return answer.get()
 
+    def ask(self, words: List[bytes], files: Dict[bytes, bytes], given: bytes) -> Tuple[int, bytes, bytes]:
+        """The status and both outputs of a run on these files and this standard input."""
+        made = json.loads(self.made({
+            "words": [coded(word) for word in words], "files": {os.fsdecode(name): coded(data) for name, data in files.items()},
+            "full": [], "input": coded(given)}))
+        return made["status"], binascii.a2b_base64(made["out"]), binascii.a2b_base64(made["err"])
+
     def end(self, number: int, answer: bytes) -> None:
         """Tells what came of a run."""
         self._made.pop(number).put(answer)
+
+
+def run_of(body: bytes) -> Dict[str, Any]:
+    """A run as loop.js takes it, of what tools/wasm/through tells."""
+    lines = [line.split(" ") for line in body.decode("ascii").split("\n")]
+    of_kind = {kind: [line[1:] for line in lines if line[0] == kind] for kind in ("word", "file", "full", "input")}
+    return {
+        "words": [word for word, in of_kind["word"]],
+        "files": {os.fsdecode(binascii.a2b_base64(name)): data for name, data in of_kind["file"]},
+        "full": [int(output) for output, in of_kind["full"]],
+        "input": of_kind["input"][0][0] if of_kind["input"] else None,
+    }
+
+
+def answer_of(made: bytes) -> bytes:
+    """What came of a run, as tools/wasm/through reads it."""
+    found = json.loads(made)
+    return ("%(status)d\n%(out)s\n%(err)s" % found).encode("ascii")
 
 
 def handler_of(runs: Runs, wasm: bytes) -> type:
@@ -109,7 +149,7 @@ def handler_of(runs: Runs, wasm: bytes) -> type:
         def do_POST(self) -> None:
             body = self.rfile.read(int(self.headers["Content-Length"] or 0))
             if self.path == "/run":
-                self._give("application/json", runs.made(json.loads(body)))
+                self._give("text/plain", answer_of(runs.made(run_of(body))))
             elif self.path == "/next":
                 self._give_next()
             else:
@@ -129,25 +169,32 @@ def start_browser(name: str, profile: str, top: str) -> "subprocess.Popen[bytes]
     return subprocess.Popen([*words, top + "/"], stdin=subprocess.DEVNULL, stdout=subprocess.DEVNULL, stderr=subprocess.DEVNULL, env=quiet)
 
 
+def start_node(top: str) -> "subprocess.Popen[bytes]":
+    """Starts a Node with the workers that the server's page has. What it says is seen: it says nothing unless it fails."""
+    words = [os.environ.get("NP_NODE", "node"), str(HERE / "workers.js"), top, str(os.cpu_count() or 2)]
+    return subprocess.Popen(words, stdin=subprocess.DEVNULL)
+
+
 class Tested(NamedTuple):
     """What `./test` runs in the place of the program, what it finds in its environment, and how many runs there were."""
 
     program: Path
     environment: Dict[str, str]
     count: Callable[[], int]
+    runs: Optional[Runs] = None
 
 
 @contextmanager
-def in_browser(name: str, wasm: bytes) -> Iterator[Tested]:
-    """A browser that takes runs."""
+def in_workers(name: str, wasm: bytes) -> Iterator[Tested]:
+    """A browser, or a Node, that takes runs."""
     runs = Runs()
     server = ThreadingHTTPServer(("127.0.0.1", 0), handler_of(runs, wasm))
     threading.Thread(target=server.serve_forever, daemon=True).start()
     top = "http://127.0.0.1:%d" % server.server_address[1]
     with _folder() as profile:
-        child = start_browser(name, profile, top)
+        child = start_node(top) if name == _NODE_KEPT else start_browser(name, profile, top)
         try:
-            yield Tested(HERE / "through", {"NP_WASM_SERVER": top}, lambda: runs.count)
+            yield Tested(HERE / "through", {"NP_WASM_SERVER": top, "NP_WASM_PYTHON": sys.executable}, lambda: runs.count, runs)
         finally:
             child.terminate()
             child.wait()
@@ -180,22 +227,26 @@ def _folder() -> ContextManager[str]:
 
 
 def cases(runtime: str) -> List[str]:
-    """The cases that run the program, and nothing that np.wasm has not in a browser or in Node."""
+    """The cases that run the program, and nothing that np.wasm has not in a browser or in Node: first those that take long."""
     found = []
     for folder in sorted((TOP / "cases").iterdir()):
         script = folder / "run"
         runs_np = not script.exists() or "$NP" in script.read_text(encoding="utf-8")
-        is_here = folder.name not in _NOT_HERE and folder.name != (_ANOTHER_NODE if runtime == "node" else _BOUND_ON_FILES)
+        is_here = folder.name not in _NOT_HERE and folder.name != (_ANOTHER_NODE if runtime == _NODE else _BOUND_ON_FILES)
         if (folder / "words").exists() and runs_np and is_here:
-            found.append(folder.name)
-    return found
+            found.append(folder)
+    return [folder.name for folder in sorted(found, key=lambda folder: not (folder / "early").exists())]
 
 
-def compare(runtime: str, wasm: bytes, names: List[str]) -> int:
-    """Runs the cases, and returns the status of ./test."""
-    with in_node(wasm) if runtime == "node" else in_browser(runtime, wasm) as tested:
-        environment = dict(os.environ, NP_TESTED=str(tested.program), **tested.environment)
-        status = subprocess.run([str(TOP / "test"), *names], env=environment, check=False).returncode
+def compare(runtime: str, wasm: bytes, words: List[str]) -> int:
+    """Runs the cases that are named, all of them without a name, or random lists, and returns the status."""
+    with in_node(wasm) if runtime == _NODE else in_workers(runtime, wasm) as tested:
+        if words[:1] == ["--lists"] and tested.runs:
+            from random_lists import compare_lists
+            status = compare_lists(tested.runs.ask, os.cpu_count() or 2, int(words[1]))
+        else:
+            environment = dict(os.environ, NP_TESTED=str(tested.program), **tested.environment)
+            status = subprocess.run([str(TOP / "test"), *(words or cases(runtime))], env=environment, check=False).returncode
         print("%d runs of np.wasm in %s" % (tested.count(), runtime))
     return status
 
@@ -205,10 +256,11 @@ def main(words: List[str]) -> int:
     wasm = TOP / "dist" / "np.wasm"
     if words[:1] == ["--wasm"] and len(words) > 1:
         wasm, words = Path(words[1]), words[2:]
-    if not words or words[0] not in [*_BROWSERS, "node"]:
+    is_of_lists = words[1:2] == ["--lists"]
+    if not words or words[0] not in [*_BROWSERS, _NODE, _NODE_KEPT] or is_of_lists and (words[0] == _NODE or len(words) != 3):
         print(_USAGE, file=sys.stderr)
         return 2
-    return compare(words[0], wasm.read_bytes(), words[1:] or cases(words[0]))
+    return compare(words[0], wasm.read_bytes(), words[1:])
 
 
 if __name__ == "__main__":
