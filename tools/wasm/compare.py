@@ -12,8 +12,7 @@ node                   np-wasm, as users have it: each run begins a Node, which 
 node-kept              tools/wasm/through, which hands each run to one Node, whose workers do what those of the page do: for thousands of
                        runs, which take a third of the time so; files and words are then read by Python, and not by np-wasm
 
-With --lists np.wasm is compared with the second program (tools/second) instead, on so many random lists, without any stand-in: for a browser,
-or a Node that is kept.
+With --lists np.wasm is compared with the second program (tools/second) instead, on so many random lists, without any stand-in.
 """
 from __future__ import annotations
 
@@ -162,6 +161,14 @@ def handler_of(runs: Runs, wasm: bytes) -> type:
     return Handler
 
 
+class Server(ThreadingHTTPServer):
+    """A server to which it is no fault that one who asked is gone, as a browser is in the end."""
+
+    def handle_error(self, request: Any, client_address: Any) -> None:
+        if not isinstance(sys.exc_info()[1], ConnectionError):
+            super().handle_error(request, client_address)
+
+
 def start_browser(name: str, profile: str, top: str) -> "subprocess.Popen[bytes]":
     """Starts a browser on the server's page."""
     words = [word % profile if "%s" in word else word for word in _BROWSERS[name]]
@@ -188,7 +195,7 @@ class Tested(NamedTuple):
 def in_workers(name: str, wasm: bytes) -> Iterator[Tested]:
     """A browser, or a Node, that takes runs."""
     runs = Runs()
-    server = ThreadingHTTPServer(("127.0.0.1", 0), handler_of(runs, wasm))
+    server = Server(("127.0.0.1", 0), handler_of(runs, wasm))
     threading.Thread(target=server.serve_forever, daemon=True).start()
     top = "http://127.0.0.1:%d" % server.server_address[1]
     with _folder() as profile:
