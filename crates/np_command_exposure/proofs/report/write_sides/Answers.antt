@@ -1,7 +1,7 @@
 use Rattle.std.proofs.Common.{arith, refl, rules, subst, ◌∙◌}
 use Rattle.std.proofs.lemmas.Result.{err_from_is_err_and}
 use Rattle.np_command_exposure.proofs.ExposureLemmas.{left-next, left-none}
-use Rattle.np_command.proofs.LeftLemmas.{HasLeft, HasLeft-fault, HasLeft-finish_fault, HasLeft-last, HasLeft-next}
+use Rattle.np_command.proofs.LeftLemmas.{HasLeft, HasLeft-fault, HasLeft-finish, HasLeft-finish_fault, HasLeft-last, HasLeft-next}
 use Rattle.np_command_exposure.proofs.report.write_sides.Goals as goal
 use Rattle.np_io.proofs.TakenLemmas.{TookLess-none}
 
@@ -40,3 +40,10 @@ returns-in_err-finish g c =
     (left-none g.F.Form.bytes c.args.folded.now c.args.sides.now c.loop-side.side-index c.loop-side.came (omega (arith, c.loop-side-test.false))) c.loop-side.invariant.left) in
     let put = rw (c.as_bytes.ensures.value, c.end.ensures) at c.in_ok-put-2.ensures.put in
     rw (p.1, p.2) (HasLeft-finish_fault _ _ _ _ _ _ _ _ _ (HasLeft-next _ _ _ _ _ _ _ _ _ _ _ left put c.in_ok-put-2.ensures.ok_faults) c.in_err-finish.ensures.front c.in_err-finish.ensures.failed)
+
+pub returns : goal.returns
+returns g c =
+    let left = HasLeft-last _ _ _ _ _ _ _ (subst (HasLeft _ _ _ _ _ _)
+    (left-none g.F.Form.bytes c.args.folded.now c.args.sides.now c.loop-side.side-index c.loop-side.came (omega (arith, c.loop-side-test.false))) c.loop-side.invariant.left) in
+    let put = rw (c.as_bytes.ensures.value, c.end.ensures) at c.in_ok-put-2.ensures.put in
+    HasLeft-finish _ _ _ _ _ _ _ _ (HasLeft-next _ _ _ _ _ _ _ _ _ _ _ left put c.in_ok-put-2.ensures.ok_faults) c.in_ok-finish.ensures.finished c.in_ok-finish.ensures.ok_faults
