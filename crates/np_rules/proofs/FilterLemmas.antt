@@ -54,3 +54,12 @@ flat_map_filter {X} {Y} test f g same (x ∷ xs) = ap (λ (ys : List Y). ys ++ f
     go : (b : Bool) → flat_map f xs ≡ flat_map g (filter test xs) → (if b then g x else []) ++ flat_map f xs ≡ flat_map g (if b then x ∷ filter test xs else filter test xs)
     go true rest = ap (λ (ys : List Y). g x ++ ys) rest
     go false rest = rest
+
+pub filter-map : {X Y : Type 0} (f : X → Y) (keep : Y → Bool) (xs : List X) → filter keep (map f xs) ≡ map f (filter (λ x. keep (f x)) xs)
+filter-map f keep [] = refl
+filter-map {X} {Y} f keep (x ∷ xs) = go (keep (f x)) (filter-map f keep xs)
+  where
+    go : (b : Bool) → filter keep (map f xs) ≡ map f (filter (λ y. keep (f y)) xs) →
+        (if b then f x ∷ filter keep (map f xs) else filter keep (map f xs)) ≡ map f (if b then x ∷ filter (λ y. keep (f y)) xs else filter (λ y. keep (f y)) xs)
+    go true rest = ap (λ (ys : List Y). f x ∷ ys) rest
+    go false rest = rest

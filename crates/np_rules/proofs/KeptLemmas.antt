@@ -5,7 +5,7 @@ use Rattle.std.proofs.lemmas.Bool.{and_left, false≢true, or_from, or_parts}
 use Rattle.np_rules.specs.Prelude.{Address, AdminPeer, AdminRule, Contact, Family, IsAdminPart, IsBasePart, KeepsRules, Layer, ModelEnd, NetPeer, NetRule, Pairwise, PlacedAdminRule, PlacedNetRule, PodSide, PortSpot, address, admin_entry_matches, admin_peer_matches, admin_places, admin_rule_matches, admin_rule_of_addresses, admin_rule_reaches, admin_says, base_places, base_says, contact, is_block, is_networks, matches_of, near_pod, net_entry_matches, net_peer_matches, net_places, net_rule_matches, net_rule_of_addresses, net_rule_reaches, none_or_any, placed_net_matches, side_allows}
 use Rattle.np_model.specs.declared.admin_policy.AdminPeer.TheVariants as admin
 use Rattle.np_model.specs.declared.network_policy.NetPeer.TheVariants as net
-use Rattle.np_rules.proofs.FilterLemmas.{any_kept, find_kept}
+use Rattle.np_rules.proofs.FilterLemmas.{any_kept, filter-map, find_kept}
 use Rattle.np_rules.proofs.LayerLemmas.{admin_same, base_same, matches_in, matches_in_namespace, walk_by_tiers}
 use Rattle.np_rules.proofs.PairwiseLemmas.{Pairwise-map, map-map}
 use Rattle.np_rules.proofs.StrangerLemmas.{any-map}
@@ -47,15 +47,6 @@ admin_rule_nowhere contact a far rule none =
     ∙ quieter is_networks (λ peer. admin_peer_matches peer (address a) contact.family) rule.peers (admin_peer_nowhere a contact.family) none)
 
 -- ---- what is left out
-
-filter-map : {X Y : Type 0} (f : X → Y) (keep : Y → Bool) (xs : List X) → filter keep (map f xs) ≡ map f (filter (λ x. keep (f x)) xs)
-filter-map f keep [] = refl
-filter-map {X} {Y} f keep (x ∷ xs) = go (keep (f x)) (filter-map f keep xs)
-  where
-    go : (b : Bool) → filter keep (map f xs) ≡ map f (filter (λ y. keep (f y)) xs) →
-        (if b then f x ∷ filter keep (map f xs) else filter keep (map f xs)) ≡ map f (if b then x ∷ filter (λ y. keep (f y)) xs else filter (λ y. keep (f y)) xs)
-    go true rest = ap (λ (ys : List Y). f x ∷ ys) rest
-    go false rest = rest
 
 -- images that are equal at each item are so where some are left out
 images_kept : {X Y : Type 0} (f g : X → Y) (keep : X → Bool) (xs : List X) → map f xs ≡ map g xs → map f (filter keep xs) ≡ map g (filter keep xs)

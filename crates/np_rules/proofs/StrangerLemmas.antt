@@ -1,11 +1,13 @@
 -- What the rules that are kept for strangers say of one. For `StrangerRules::layer`, `StrangerRules::net` and `rules_with_conns`.
-use Rattle.std.proofs.Common.{◌≡◌, ℕ, ◌+◌, ◌<◌, List, [], ◌∷◌, ◌++◌, Bool, true, ◌&&◌, ◌||◌, find, get_or, length, map, take, refl, sym, ap, ◌∙◌, subst}
+use Rattle.std.proofs.Common.{◌≡◌, ℕ, ◌+◌, ◌<◌, List, [], ◌∷◌, ◌++◌, Bool, true, ◌&&◌, ◌||◌, Option, filter, find, get_or, length, map, take, refl, sym, ap, ◌∙◌, subst}
 use Rattle.std.specs.List.{AllByRecursion, list_any}
 use Rattle.std.proofs.lemmas.List.{map-append, take_more}
 use Rattle.std.proofs.Math.Bool.{or-false}
-use Rattle.np_rules.specs.Prelude.{Address, AdminRule, ArePermitted, Contact, Direction, Egress, HasPorts, HavePorts, Ingress, IsAdminPart, IsBasePart, IsNetOf, KeepsRules, Layer, ModelEnd, NetPort, NetRule, Pairwise, PlacedNetRule, PodSide, PortSpot, RuleConns, SaysVerdicts, Six, Stranger, address, admin_places, admin_rule_matches, admin_says, base_places, base_says, destination_of, kept_matches, matches_of, near_pod, net_entry_matches, net_peer_matches, net_places, net_rule_matches, none_or_any, placed_net_matches, pod, rule_of, stranger_end, with_stranger}
+use Rattle.std.proofs.lemmas.Bool.{and_left}
+use Rattle.np_rules.specs.Prelude.{Address, AdminRule, ArePermitted, Contact, Direction, Egress, Four, HasPorts, HavePorts, Ingress, IsAdminPart, IsBasePart, IsNetOf, KeepsRules, Layer, ModelEnd, NetPort, NetRule, Pairwise, PlacedAdminRule, PlacedNetRule, PodSide, PortSpot, RuleConns, SaysVerdicts, Six, Stranger, address, admin_places, admin_rule_matches, admin_rule_reaches, admin_says, base_places, base_says, destination_of, kept_matches, matches_of, near_pod, net_entry_matches, net_peer_matches, net_places, net_rule_matches, none_or_any, placed_net_matches, pod, rule_of, stranger_end, with_stranger}
 use Rattle.np_conns.specs.Prelude.{Conns, has_spot, is_spot}
 use Rattle.np_model.specs.declared.network_policy.NetPort.TheVariants as net
+use Rattle.np_rules.proofs.FilterLemmas.{filter-map, find_kept}
 use Rattle.np_rules.proofs.LayerLemmas.{admin_same, base_same, matches_in, matches_in_namespace, walk_by_tiers}
 use Rattle.np_rules.proofs.PairwiseLemmas.{Pairwise-map}
 use Rattle.np_rules.proofs.AddressLemmas.{none_or_any-same}
@@ -85,11 +87,11 @@ net_of_kept side admin isolated kept base keeps have s spot within =
     passes matches = matches (with_stranger s side spot)
 
 -- A layer whose parts are those of the kept rules, and whose only set has what NetworkPolicies permit the stranger, says what the side says of it.
-pub says_of_stranger : (side : PodSide) (s : Stranger) (admin : List AdminRule) (isolated : Bool) (net : List NetRule) (base : List AdminRule) (at : PortSpot → Contact)
-    (permitted : Conns) (made : Layer Conns) → at ≡ with_stranger s side → KeepsRules side admin isolated net base → ArePermitted side s permitted → Pairwise
-    (IsAdminPart has_spot is_spot at) made.admin admin → made.isolated ≡ isolated → made.net ≡ permitted ∷ [] → Pairwise (IsBasePart has_spot is_spot at) made.base base
+pub says_of_stranger : (side : PodSide) (s : Stranger) (admin : List AdminRule) (isolated : Bool) (net : List NetRule) (base kept : List AdminRule) (at : PortSpot → Contact)
+    (permitted : Conns) (made : Layer Conns) → at ≡ with_stranger s side → KeepsRules side admin isolated net base →
+    kept ≡ filter (admin_rule_reaches (pod (stranger_end s)) Four) admin → ArePermitted side s permitted → Pairwise (IsAdminPart has_spot is_spot at) made.admin kept → made.isolated ≡ isolated → made.net ≡ permitted ∷ [] → Pairwise (IsBasePart has_spot is_spot at) made.base base
     → SaysVerdicts has_spot is_spot side (with_stranger s) made
-says_of_stranger side s admin isolated net base at permitted made is_at keeps are_permitted are_admin same is_net are_base spot within =
+says_of_stranger side s admin isolated net base kept at permitted made is_at keeps are_kept are_permitted are_admin same is_net are_base spot within =
     walk_by_tiers has_spot side.lists side.direction (near_pod side) (contacts spot) made spot keeps.ascending (same ∙ keeps.isolation) net_says base_is admin_is
   where
     contacts : PortSpot → Contact
@@ -106,10 +108,24 @@ says_of_stranger side s admin isolated net base at permitted made is_at keeps ar
         (subst (λ (rules : List AdminRule). Pairwise (IsBasePart has_spot is_spot contacts) made.base rules) keeps.base_rules
         (subst (λ (c : PortSpot → Contact). Pairwise (IsBasePart has_spot is_spot c) made.base base) is_at are_base)))
 
+    admins : List PlacedAdminRule
+    admins = admin_places side.lists.admin_policies side.direction (near_pod side)
+
+    reaches : AdminRule → Bool
+    reaches = admin_rule_reaches (pod (stranger_end s)) Four
+
+    reaching : List PlacedAdminRule
+    reaching = filter (λ placed. reaches placed.rule) admins
+
+    kept_rules : kept ≡ map (λ placed. placed.rule) reaching
+    kept_rules = are_kept ∙ ap (filter reaches) keeps.admin_rules ∙ filter-map (λ placed. placed.rule) reaches admins
+
     admin_is : (below : Bool) → admin_allows (find (λ part. has_spot part.set spot) made.admin) below ≡ admin_says
-        (find (λ placed. admin_rule_matches placed.rule (contacts spot)) (admin_places side.lists.admin_policies side.direction (near_pod side))) below
+        (find (λ placed. admin_rule_matches placed.rule (contacts spot)) admins) below
     admin_is below =
-        admin_same has_spot is_spot contacts spot within below made.admin (admin_places side.lists.admin_policies side.direction (near_pod side))
-        (Pairwise-map (IsAdminPart has_spot is_spot contacts) (λ placed. placed.rule) made.admin (admin_places side.lists.admin_policies side.direction (near_pod side))
-        (subst (λ (rules : List AdminRule). Pairwise (IsAdminPart has_spot is_spot contacts) made.admin rules) keeps.admin_rules
-        (subst (λ (c : PortSpot → Contact). Pairwise (IsAdminPart has_spot is_spot c) made.admin admin) is_at are_admin)))
+        admin_same has_spot is_spot contacts spot within below made.admin reaching
+        (Pairwise-map (IsAdminPart has_spot is_spot contacts) (λ placed. placed.rule) made.admin reaching
+        (subst (λ (rules : List AdminRule). Pairwise (IsAdminPart has_spot is_spot contacts) made.admin rules) kept_rules
+        (subst (λ (c : PortSpot → Contact). Pairwise (IsAdminPart has_spot is_spot c) made.admin kept) is_at are_admin)))
+        ∙ ap (λ (found : Option PlacedAdminRule). admin_says found below)
+        (find_kept (λ placed. admin_rule_matches placed.rule (contacts spot)) (λ placed. reaches placed.rule) admins (λ placed none. and_left _ _ none))

@@ -56,6 +56,7 @@ pub use rule_ids::{LayerRules, RuleId};
 pub use same::{Same, are_same};
 pub use same_sides::is_same_side;
 pub use side_marks::side_mark;
+pub use side_rules::SideRules;
 pub use stranger::Stranger;
 pub use stranger_rules::{RuleConns, StrangerRules, joined_set};
 pub use texts::{direction_text, said_text, verdict_text};

@@ -259,8 +259,8 @@ impl<'a> PodRules<'a> {
         Ok(set)
     }
 
-    /// The rules, one after another.
-    pub(crate) fn rules(&self, alloc: Global) -> Result<SideRules<'a>, NoMemory>
+    /// The rules, one after another. Want of memory is the one refusal.
+    pub fn rules(&self, alloc: Global) -> Result<SideRules<'a>, NoMemory>
         ensures { IfOk result (λ made. KeepsRules self.now (map (λ rule. rule.now) made.admin.items)
             made.isolated (map (λ rule. rule.now) made.net.items) made.base.now) }
     {

@@ -99,8 +99,7 @@ pub(crate) fn entries_set<E: PortEntry>(
     }
 }
 
-// The spots that some entry matches. Layers keep such a set for each rule. A join leaves room for up to twice its ranges, and
-// a copy leaves none.
+// The spots that some entry matches.
 fn joined_set<E: PortEntry>(
     alloc: Global,
     entries: &[E],
@@ -113,8 +112,7 @@ fn joined_set<E: PortEntry>(
         return entry.spots(alloc, destination);
     }
     let matching = entries_toward(alloc, entries, destination)?;
-    let joined = joined_by_halves(alloc, &matching, destination)?;
-    joined.copy()
+    joined_by_halves(alloc, &matching, destination)
 }
 
 // The entries but those that name ports of which the destination has none. A rule may have thousands of these, and no set is

@@ -13,6 +13,7 @@ use crate::layer_parts::{admin_parts, base_parts};
 use crate::near_ends::{between, view_at};
 use crate::peers::net_peers_match;
 use crate::pod_rules::PodRules;
+use crate::rules_toward::admin_rules_toward;
 use crate::stranger::Stranger;
 use crate::views::{EndView, view_of_stranger};
 use np_addr::Family;
@@ -126,7 +127,7 @@ impl<'a> StrangerRules<'a> {
     }
 
     /// The rules as sets of the protocols and ports that they match with such a pod as the far end, where `net` is what
-    /// the NetworkPolicies permit.
+    /// the NetworkPolicies permit. Admin rules whose peers do not match it are passed over.
     pub fn layer(
         &self,
         alloc: Global,
@@ -139,7 +140,8 @@ impl<'a> StrangerRules<'a> {
         let near = EndView::Pod(view_at(self.estate, self.pod));
         let far = EndView::Pod(view_of_stranger(stranger));
         let ends = between(self.direction, &near, &far, Family::Four);
-        let admin = admin_parts(alloc, &self.admin, &ends)?;
+        let toward = admin_rules_toward(alloc, &self.admin, &far, Family::Four)?;
+        let admin = admin_parts(alloc, &toward, &ends)?;
         let base = base_parts(alloc, self.base, &ends)?;
         let mut sets = Seq::new(alloc);
         sets.push(net)?;
