@@ -64,6 +64,13 @@ impl<S: Drop, V: Drop + OfSource<S>> Kept<S, V> {
         }
     }
 
+    /// The source.
+    pub fn source(&self) -> &S
+        ensures { result.now ≡ self.now }
+    {
+        &self.source
+    }
+
     /// The last value of a key, where it is kept.
     pub fn find(&self, key: u64) -> Option<&V>
         ensures { IfSome result (λ value. V.IsRight self.now value.now) }
@@ -72,7 +79,8 @@ impl<S: Drop, V: Drop + OfSource<S>> Kept<S, V> {
         self.values.get(place)
     }
 
-    /// Keeps a value of so many bytes under a key, unless it has more than there is room for.
+    /// Keeps a value of so many bytes under a key, unless it has more than there is room for. Where memory runs out, what was kept
+    /// stays right, and the value may be lost.
     pub fn keep(&mut self, key: u64, value: V, bytes: usize) -> Result<(), NoMemory>
         requires { V.IsRight self.old value }
         ensures { self.new ≡ self.old }

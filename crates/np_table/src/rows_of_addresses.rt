@@ -51,7 +51,7 @@ pub fn address_rows_by_kind(
 
 /// A pod, by its place in the estate, between which and each address the same passes as between a workload and that address, by
 /// the rules of the workload's kind, which are found unless they are known. It is mostly one pod for all workloads whose sides
-/// are the same, so that what was found with addresses for one of these can serve for all.
+/// are the same, so that what was found with addresses for one of these can serve for all. Only the rules of the kind take memory.
 pub fn pod_for_addresses(
     sides: &mut Sides<'_>,
     workload: u32,

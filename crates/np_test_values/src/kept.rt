@@ -31,6 +31,7 @@ fn example_kept(rt: HostRuntime) {
     squares
         .keep(4, Power { base: 4, value: 16 }, 50)
         .expect(&rt, "four");
+    assert!(&rt; *squares.source() == 2, "the source");
     expect_found(&rt, &squares, 3, Some(9));
     expect_found(&rt, &squares, 4, Some(16));
     expect_found(&rt, &squares, 5, None);
