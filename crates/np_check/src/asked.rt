@@ -37,13 +37,17 @@ impl<'a> Asked<'a> {
         Ok(first_spot(&broken))
     }
 
-    // The protocols and ports of the statement at which a packet breaks it.
+    // The protocols and ports of the statement at which a packet breaks it. Only those of the statement that pass are taken off it:
+    // of the thousands of ranges that may pass, those behind the statement's last port are not gone through.
     fn broken(&self, passes: &ConnSet) -> Result<ConnSet, NoMemory>
         ensures { IfOk result (λ made. (spot : PortSpot) →
             has_spot made spot ≡ breaks self.now.wanted self.now.conns.now (has_spot passes.now) spot) }
     {
         match self.wanted {
-            Wanted::Allow => self.conns.minus(passes),
+            Wanted::Allow => {
+                let passing = self.conns.meet(passes)?;
+                self.conns.minus(&passing)
+            }
             Wanted::Deny => self.conns.meet(passes),
         }
     }
