@@ -11,8 +11,8 @@ use np_model::{Direction, Estate};
 use std::alloc::Global;
 use std::marker::Model;
 
-// The sets that are kept take no more bytes, so that those of many pairs do not fill the memory.
-const MOST_BYTES: usize = 32 << 20;
+// The sets that are kept weigh no more, so that those of many pairs do not fill the memory.
+const MOST_WEIGHT: usize = 32 << 20;
 
 /// What the side of a pod in a direction allows with another pod, in packets of a family. Both are named by their places in
 /// the estate.
@@ -63,7 +63,7 @@ impl<'a> SharedSets<'a> {
         ensures { result ≡ estate.now }
     {
         SharedSets {
-            kept: Kept::new(alloc, estate, MOST_BYTES),
+            kept: Kept::new(alloc, estate, MOST_WEIGHT),
         }
     }
 
@@ -88,8 +88,14 @@ impl<'a> SharedSets<'a> {
             asked,
             set: set.copy()?,
         };
-        self.kept.keep(key_of(asked), kept, bytes_of_set(set))
+        self.kept.keep(key_of(asked), kept, weight_of(set))
     }
+}
+
+// What a set that is kept counts: about its bytes where it has few ranges, and an eighth of them where it has thousands, since it
+// takes that much longer to find it again.
+fn weight_of(set: &ConnSet) -> usize {
+    (bytes_of_set(set) / 8).saturating_add(168)
 }
 
 // The key of a question. There are fewer pods than two to the thirtieth, so that no two questions have one key.
