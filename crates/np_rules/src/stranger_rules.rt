@@ -9,7 +9,7 @@ ghost use Rattle.np_rules.specs.StrangerRules.{ArePermitted, HasPorts, IsNetOf, 
 ghost use Rattle.np_rules.specs.Views.{end_view};
 
 use crate::every_address::EveryAddress;
-use crate::layer_parts::{admin_parts, base_parts};
+use crate::layer_parts::{admin_parts, base_parts, held_once};
 use crate::near_ends::{between, view_at};
 use crate::peers::net_peers_match;
 use crate::pod_rules::PodRules;
@@ -164,9 +164,10 @@ fn rules_with_conns<'a>(
     ensures rules { IfOk result (λ made. map rule_of made.items ≡ map (λ rule. rule.now) rules.now) }
     ensures conns { IfOk result (λ made. AllByRecursion (HasPorts ends.now.direction (end_view ends.now.near)) made.items) }
 {
-    let mut made = Vec::new(alloc);
+    let mut made: Vec<RuleConns<'a>> = Vec::new(alloc);
     for rule in rules {
-        let conns = ends.entries_set(alloc, rule.ports.items())?;
+        let found = ends.entries_set(alloc, rule.ports.items())?;
+        let conns = held_once(made.last().map(|kept| &kept.conns), found)?;
         made.push(RuleConns { rule, conns })?;
     }
     Ok(made)

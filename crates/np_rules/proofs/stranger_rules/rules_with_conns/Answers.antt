@@ -1,5 +1,6 @@
-use Rattle.std.proofs.Common.{refl, sym, subst}
+use Rattle.std.proofs.Common.{refl, sym, subst, ap, ◌∙◌}
 use Rattle.std.specs.List.{AllByRecursion}
+use Rattle.np_conns.specs.Prelude.{Conns, has_spot}
 use Rattle.np_rules.specs.Prelude.{HasPorts, RuleConns, end_view, rule_of}
 use Rattle.np_rules.proofs.StrangerLemmas.{all-push, has_ports, images-next}
 use Rattle.np_rules.proofs.stranger_rules.rules_with_conns.Goals as goal
@@ -14,5 +15,6 @@ loop-rule-preserved c =
           c.loop-rule-test.true c.rule-item.is c.in_ok-push.ensures.items refl c.loop-rule.invariant.rules;
       conns = subst (AllByRecursion (HasPorts direction near)) (sym c.in_ok-push.ensures.items)
           (all-push (HasPorts direction near) c.loop-rule.made.items next c.loop-rule.invariant.conns
-          (has_ports direction near next (rw c.items.ensures at c.in_ok-conns.ensures)));
+          (has_ports direction near next
+          (λ a spot within. ap (λ (set : Conns). has_spot set spot) c.in_ok-conns.ensures ∙ (rw c.items.ensures at c.in_ok-found.ensures) a spot within)));
     }
