@@ -4,7 +4,7 @@ use Rattle.std.proofs.Common.{◌≡◌, ◌≢◌, ◌≤◌, ◌+◌, ℕ, Lis
 use Rattle.std.specs.Prelude.{◌↔◌}
 use Rattle.std.proofs.lemmas.Bool.{and_from, false≢true, le-leb}
 use Rattle.std.proofs.lemmas.List.Elements.{All-append, All-cons, All-nil}
-use Rattle.np_routes.proofs.StretchLemmas.{right-within}
+use Rattle.np_table.proofs.RangeOneList.{AreRight-ordered}
 use Rattle.np_command_list.specs.Prelude.{Family, Four, LetSomePass, Pod, PortSpot, Range, Row, RowKey, Six}
 use Rattle.np_base.specs.Ranges.{holds}
 use Rattle.np_base.proofs.Lists.{Contains-one}
@@ -137,7 +137,7 @@ right-stretches : (passes : ℕ → PortSpot → Bool) (from high : ℕ) (before
     All (IsStretchOf passes high) stretches
 right-stretches passes from high before [] right = All-nil (IsStretchOf passes high)
 right-stretches passes from high before (stretch ∷ stretches) right =
-    let past = right-within passes (stretch.hi + 1) (high + 1) (Some stretch.conns) stretches right.1 in
+    let past = AreRight-ordered passes (stretch.hi + 1) (high + 1) (Some stretch.conns) stretches right.1 in
     let same : conns_of (passes stretch.lo) ≡ stretch.conns = right.0.conns stretch.lo (omega arith) right.0.filled in
     let well : IsConns stretch.conns = subst IsConns same (conns_of-well (passes stretch.lo)) in
     All-cons (IsStretchOf passes high) stretch stretches (record {

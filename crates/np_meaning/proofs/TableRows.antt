@@ -12,7 +12,7 @@ use Rattle.np_model.specs.declared.direction.Direction.{Direction}
 use Rattle.np_model.specs.declared.direction.Direction.TheVariants.{Ingress, Egress}
 use Rattle.np_routes.specs.Prelude.{ClusterTable, all_ingress_rows, cluster_rows, cluster_table, ingress_key, ingress_row}
 use Rattle.np_routes.proofs.ClusterLemmas.{estate-names}
-use Rattle.np_routes.proofs.StretchLemmas.{right-within}
+use Rattle.np_table.proofs.RangeOneList.{AreRight-ordered}
 use Rattle.np_table.proofs.RangeWalks.{walk-right}
 use Rattle.np_table.specs.Prelude.{AreRight, Stretch, Table, address_row, address_rows, all_address_rows, all_pair_rows, all_rows, estate_table, four_of, is_nothing, pair_key, pair_rows, row_if, row_of, rows_in, rows_of_addresses, rows_of_both, rows_towards, six_of, walk}
 use Rattle.np_kinds.specs.Prelude.{IsWorkload, number_of_workloads}
@@ -31,7 +31,7 @@ right-stretches : (passes : ℕ → PortSpot → Bool) (from high : ℕ) (before
     All (IsStretchOf high) stretches
 right-stretches passes from high before [] right = All-nil (IsStretchOf high)
 right-stretches passes from high before (stretch ∷ stretches) right =
-    let past = right-within passes (stretch.hi + 1) (high + 1) (Some stretch.conns) stretches right.1 in
+    let past = AreRight-ordered passes (stretch.hi + 1) (high + 1) (Some stretch.conns) stretches right.1 in
     All-cons (IsStretchOf high) stretch stretches (record {
       filled = right.0.filled;
       within = omega (arith, past);

@@ -8,5 +8,4 @@ pub mod PortSetLemmas
 pub mod ReachedLemmas
 pub mod RouteLemmas
 pub mod ServiceLemmas
-pub mod StretchLemmas
 pub mod TargetLemmas

@@ -8,6 +8,7 @@ use Rattle.std.proofs.lemmas.List.Folds.{Any-from_list_any, list_any-append, lis
 use Rattle.np_conns.specs.Prelude.{same_proto}
 use Rattle.np_routes.specs.Prelude.{Backend, EstateLists, LeadsTo, PlacedIngress, PortName, PortSpot, Proto, Sctp, ServiceItem, ServicePort, Tcp, Udp, is_backend_port, is_routed, is_target, leads_to, routes_in, routes_of_backend, routes_of_ingress, routes_through, serves, service_named}
 use Rattle.np_model.specs.declared.ingress.Backend.TheVariants as backend
+use Rattle.np_rules.proofs.StrangerLemmas.{any-map}
 use Rattle.np_rules.specs.Prelude.{PodEnd}
 use Rattle.std.specs.Str.{bytes_eq}
 
@@ -36,10 +37,6 @@ list_any-filter {X} test keep (x ∷ xs) = by (keep x) (list_any-filter test kee
     by true rest = ap (λ (b : Bool). test x || b) rest
     by false rest = rest
 
-list_any-map : {X Y : Type 0} (test : Y → Bool) (f : X → Y) (xs : List X) → list_any test (map f xs) ≡ list_any (λ x. test (f x)) xs
-list_any-map test f [] = refl
-list_any-map test f (x ∷ xs) = ap (λ (b : Bool). test (f x) || b) (list_any-map test f xs)
-
 -- ---- routes, ingress by ingress and port by port
 
 -- whether a port of a service is named by the backend, and leads to the number
@@ -49,7 +46,7 @@ port_leads p number named service port = is_backend_port named port && leads_to 
 pub through-ports : (p : PodEnd) (number : ℕ) (named : PortName) (service : ServiceItem) →
     list_any (leads_to p number) (routes_through named (Some service)) ≡ list_any (port_leads p number named service) service.ports
 through-ports p number named service =
-    list_any-map (leads_to p number) (λ port. record { service = service; port = port }) (filter (is_backend_port named) service.ports)
+    any-map (leads_to p number) (λ port. record { service = service; port = port }) (filter (is_backend_port named) service.ports)
     ∙ list_any-filter (λ port. leads_to p number (record { service = service; port = port })) (is_backend_port named) service.ports
 
 module _ (lists : EstateLists) (p : PodEnd) (number : ℕ) where

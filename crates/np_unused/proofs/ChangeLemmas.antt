@@ -6,7 +6,8 @@ use Rattle.np_tiers.proofs.Verdicts.{whole_stands}
 use Rattle.np_model.specs.Prelude.{IsLawful}
 use Rattle.np_unused.specs.Prelude.{AdminPolicy, AdminRule, BasePolicy, Decider, Direction, EstateLists, NetPolicy, NetRule, RuleName, RuleRef, Tier, admin_without, base_without, goes, net_without, ref_of, rule_count_at, rule_in, rule_name, without}
 use Rattle.np_explain.proofs.RuleLemmas.{net_decider_is_first}
-use Rattle.np_unused.proofs.StayLemmas.{any_found, any_map, find_map, first_stays}
+use Rattle.np_rules.proofs.StrangerLemmas.{any-map}
+use Rattle.np_unused.proofs.StayLemmas.{any_found, find_map, first_stays}
 use Rattle.np_unused.proofs.WithoutLemmas.{IsAdminAt, IsBaseAt, IsNetAt, admin_are, admin_from, admin_left, admin_placed, admin_stays, ascending_left, base_are, base_from, base_left, base_placed, base_stays, isolated_left, net_are, net_from, net_left, net_placed, net_stays, spaced}
 use Rattle.np_unused.specs.declared.rule_ref.Tier.TheVariants as tier
 use Rattle.np_model.specs.declared.admin_policy.Action.{Action}
@@ -172,18 +173,18 @@ module _ (lists : EstateLists) (lawful : IsLawful lists) (gone : List RuleRef) (
       ap not (stays tier.Net x.0 x.1.place valid (ap (rule_in tier.Net) here ∙ ap {A = RuleName} Some (sym (net_name x.1.place (slice_get lists.net_policies x.0) x.1 at.0 refl))))
 
   permits_spaced : (policies : List NetPolicy) → permits policies direction p contact ≡ list_any spaced_test (map spaced (net_places policies direction p))
-  permits_spaced policies = sym (any_map spaced spaced_test (net_places policies direction p))
+  permits_spaced policies = sym (any-map spaced_test spaced (net_places policies direction p))
 
   net_same : Stays → (pass : Option RuleName) → decider lists direction (pod p) contact ≡ lower_decider lists direction p contact pass → is_isolated lists.net_policies direction p ≡ true →
       permits (map (net_without gone) (enumerate_from 0 lists.net_policies)) direction p contact ≡ permits lists.net_policies direction p contact
   net_same stays pass lower isolated =
       permits_spaced (map (net_without gone) (enumerate_from 0 lists.net_policies))
       ∙ ap (list_any spaced_test) (net_left gone direction p 0 lists.net_policies)
-      ∙ any_map (λ x. spaced x.1) spaced_test (filter (net_stays gone direction p) nets)
+      ∙ any-map spaced_test (λ x. spaced x.1) (filter (net_stays gone direction p) nets)
       ∙ any_found net_test (filter (net_stays gone direction p) nets)
       ∙ ap is_some (first_stays net_test (net_stays gone direction p) nets (net_first_stays stays pass lower isolated))
       ∙ sym (any_found net_test nets)
-      ∙ sym (any_map (λ x. x.1) (placed_net_matches contact) nets)
+      ∙ sym (any-map (placed_net_matches contact) (λ x. x.1) nets)
       ∙ ap (list_any (placed_net_matches contact)) (net_placed gone direction p 0 lists.net_policies)
 
   -- ---- rules of the baseline

@@ -28,19 +28,6 @@ find_map {X} {Y} f test (x ∷ xs) = go (test (f x)) (find_map f test xs)
     go true rest = refl
     go false rest = rest
 
-pub filter_map : {X Y : Type 0} (f : X → Y) (test : Y → Bool) (xs : List X) → filter test (map f xs) ≡ map f (filter (λ x. test (f x)) xs)
-filter_map f test [] = refl
-filter_map {X} {Y} f test (x ∷ xs) = go (test (f x)) (filter_map f test xs)
-  where
-    go : (b : Bool) → filter test (map f xs) ≡ map f (filter (λ y. test (f y)) xs) →
-        (if b then f x ∷ filter test (map f xs) else filter test (map f xs)) ≡ map f (if b then x ∷ filter (λ y. test (f y)) xs else filter (λ y. test (f y)) xs)
-    go true rest = ap (λ (ys : List Y). f x ∷ ys) rest
-    go false rest = rest
-
-pub any_map : {X Y : Type 0} (f : X → Y) (test : Y → Bool) (xs : List X) → list_any test (map f xs) ≡ list_any (λ x. test (f x)) xs
-any_map f test [] = refl
-any_map f test (x ∷ xs) = ap (λ (b : Bool). test (f x) || b) (any_map f test xs)
-
 -- some item passes where one is found
 pub any_found : {X : Type 0} (test : X → Bool) (xs : List X) → list_any test xs ≡ is_some (find test xs)
 any_found test [] = refl
