@@ -48,40 +48,21 @@ END = "<!-- The tables end here. -->"
 
 # The runs that are known to break the bounds, and why. One that does so and is not here is a finding.
 LONG_ANSWER = "the answer is as long as that"
-PAIRS = "the peers are asked about every two workloads"
-RULES_OF_PODS = "the rules of each workload are gone through for its addresses, also where those of another one are the same"
-PORTS_OF_PAIRS = "the ports of a rule are found for every two workloads, although the one that is sent to alone decides them"
-PORTS_OF_RULES = "each rule holds the ports that its name stands for"
-PORTS_OF_BLOCKS = "the ports of the rule are held once for each of its blocks"
-WEIGHED = "what the rules ask for is gathered for each workload, to see whether there are too many patterns"
-PATTERNS = "the rules are gone through for each pattern of the labels"
-SETS_OF_PATTERNS = "each pattern of the labels has a set of thousands of ports"
+HELD_ANSWER = "the answer is as long as that, and the rows of a workload are held until all of them are known"
+HELD_POLICY = "the answer is as long as that, and each policy is held whole"
 KNOWN = {(name, command): why for name, commands, why in (
     ("longNames", "list", LONG_ANSWER),
     ("samePorts", "list", LONG_ANSWER),
     ("pairPorts", "list", LONG_ANSWER),
     ("blockRules", "list", LONG_ANSWER),
+    ("blocksAndPorts", "list", LONG_ANSWER),
+    ("blocksAndPorts", "flatten", HELD_POLICY),
+    ("pairPorts", "flatten", HELD_POLICY),
+    ("groupKeys", "flatten", HELD_POLICY),
+    ("exposureKeyPorts", "exposure", HELD_ANSWER),
     ("ignored", "list", "the JSON is held whole, and an object of one member takes more than 500 bytes of memory"),
     ("mostBlocks", "list explain exposure evaluate unused check flatten",
      "the JSON and the policies are held whole, at 50 bytes of memory for each byte"),
-    ("groupKeys", "list", PAIRS),
-    ("groupKeys", "flatten", "each policy names all groups, and each group by all keys"),
-    ("adminRules", "exposure", PATTERNS),
-    ("adminRules", "flatten", RULES_OF_PODS),
-    ("adminPortRules", "exposure", PATTERNS),
-    ("adminPortRules", "flatten", RULES_OF_PODS),
-    ("podRules", "exposure", PATTERNS),
-    ("podRules", "flatten", RULES_OF_PODS),
-    ("manyLines", "check", "every two workloads are looked at for each statement"),
-    ("pairPorts", "check flatten", PORTS_OF_PAIRS),
-    ("portNames", "exposure", PORTS_OF_PAIRS),
-    ("namedPortRules", "explain exposure unused", PORTS_OF_RULES),
-    ("blocksAndPorts", "list unused check flatten", PORTS_OF_BLOCKS),
-    ("exposureStrangers", "exposure", WEIGHED),
-    ("exposureKeys", "exposure", PATTERNS),
-    ("exposurePeers", "exposure", PATTERNS),
-    ("exposureNamespaces", "exposure", PATTERNS),
-    ("exposureKeyPorts", "exposure", SETS_OF_PATTERNS),
 ) for command in commands.split()}
 
 
