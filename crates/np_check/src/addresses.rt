@@ -146,14 +146,8 @@ fn first_with(
         (address_allows checker.old (folding_of checker.old) work direction)) }
     ensures same { checker.new ≡ checker.old }
 {
-    let pod = checker.pod_for_addresses(work, direction)?;
-    if let Some(rows) = checker.known_addresses(pod, direction) {
-        return first_broken(asked, rows, block);
-    }
     let rows = checker.find_addresses(work, direction)?;
-    let found = first_broken(asked, rows.items(), block)?;
-    checker.keep_addresses(pod, direction, rows)?;
-    Ok(found)
+    first_broken(asked, rows.items(), block)
 }
 
 // The first address of a set with which a packet breaks a statement, by what passes with each range of addresses.

@@ -1,11 +1,10 @@
 //! Whether the statements of a cluster hold.
-ghost use Rattle.std.specs.Prelude.{◌≡◌, false, true, All, IfOk, IfSome};
+ghost use Rattle.std.specs.Prelude.{◌≡◌, false, true, All, IfOk};
 ghost use Rattle.np_addr.specs.declared.address.Family.{Family as SpecFamily};
 ghost use Rattle.np_check.specs.Counterexamples.{counterexample_of};
 ghost use Rattle.np_conns.specs.declared.port_spot.PortSpot.{PortSpot};
 ghost use Rattle.np_fold.specs.Prelude.{folding_of};
-ghost use Rattle.np_rules.specs.Prelude.{side_of};
-ghost use Rattle.np_table.specs.Prelude.{address_rows, estate_table, rows_of_addresses, side_with_address};
+ghost use Rattle.np_table.specs.Prelude.{address_rows, estate_table};
 ghost use Rattle.np_conns.specs.Prelude.{conns_of};
 ghost use Rattle.np_kinds.specs.Prelude.{IsWorkload, is_alone, pair_allows};
 
@@ -13,15 +12,14 @@ use crate::addresses::first_from_addresses;
 use crate::asked::Asked;
 use crate::checking::first_from_works;
 use crate::counterexample::Counterexample;
-use crate::known_addresses::KnownAddresses;
 use crate::statement::Statement;
 use np_addr::Family;
-use np_base::{NoMemory, Seq};
+use np_base::NoMemory;
 use np_conns::ConnSet;
 use np_fold::Folded;
 use np_kinds::{KindReach, Sides};
 use np_model::Direction;
-use np_table::{AddressRow, address_rows_by_kind, pod_for_addresses, set_by_kinds};
+use np_table::{KnownAddresses, SharedRows, set_by_kinds};
 use std::alloc::Global;
 use std::marker::Model;
 
@@ -145,52 +143,17 @@ impl<'a> Checker<'a> {
         self.sides.folded()
     }
 
-    /// A pod, by its place in the cluster, between which and each address the same passes as between a workload and that address:
-    /// from the addresses to it in the direction of ingress, and from it to them in that of egress.
-    pub(crate) fn pod_for_addresses(
-        &mut self,
-        work: u32,
-        direction: Direction,
-    ) -> Result<u32, NoMemory>
-        requires { IsWorkload self.old work }
-        ensures rows { IfOk result (λ pod. rows_of_addresses (side_with_address (side_of self.old pod direction))
-            ≡ address_rows (estate_table self.old) work direction) }
-        ensures same { self.new ≡ self.old }
-    {
-        pod_for_addresses(&mut self.sides, work, direction)
-    }
-
-    /// What passes between a pod and each address, where it is known.
-    pub(crate) fn known_addresses(&self, pod: u32, direction: Direction) -> Option<&[AddressRow]>
-        ensures { IfSome result (λ rows. rows.now ≡ rows_of_addresses (side_with_address (side_of self.now pod direction))) }
-    {
-        self.addresses.rows(pod, direction)
-    }
-
-    /// Finds what passes between a workload and each address.
+    /// What passes between a workload and each address, which is found unless it is known for a pod that stands for the workload.
     pub(crate) fn find_addresses(
         &mut self,
         work: u32,
         direction: Direction,
-    ) -> Result<Seq<AddressRow>, NoMemory>
+    ) -> Result<SharedRows, NoMemory>
         requires { IsWorkload self.old work }
         ensures rows { IfOk result (λ made. made ≡ address_rows (estate_table self.old) work direction) }
         ensures same { self.new ≡ self.old }
     {
-        address_rows_by_kind(self.alloc, &mut self.sides, work, direction)
-    }
-
-    /// Keeps what was found to pass between a pod and each address, for the workloads and statements to come.
-    pub(crate) fn keep_addresses(
-        &mut self,
-        pod: u32,
-        direction: Direction,
-        rows: Seq<AddressRow>,
-    ) -> Result<(), NoMemory>
-        requires { rows ≡ rows_of_addresses (side_with_address (side_of self.old pod direction)) }
-        ensures { self.new ≡ self.old }
-    {
-        self.addresses.keep(pod, direction, rows)
+        self.addresses.rows_of(&mut self.sides, work, direction)
     }
 
     /// The protocols and ports that pass from a workload to another in a family, by the rules of their kinds. It is right of a

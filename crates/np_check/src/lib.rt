@@ -6,7 +6,6 @@ mod asked;
 mod checker;
 mod checking;
 mod counterexample;
-mod known_addresses;
 mod laws;
 mod order;
 mod pairs;

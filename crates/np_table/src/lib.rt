@@ -2,6 +2,7 @@
 #![tactic(auto)]
 
 mod all_rows;
+mod known_addresses;
 mod laws;
 mod pair_sets;
 mod range_laws;
@@ -10,8 +11,10 @@ mod rows;
 mod rows_by_kind;
 mod rows_of_addresses;
 mod rows_of_pairs;
+mod shared_rows;
 
 pub use all_rows::Rows;
+pub use known_addresses::KnownAddresses;
 pub use laws::{
     kinds_give_the_pairs, no_row_with_itself, one_row_for_each_address,
     one_row_where_the_same_ports_pass, rows_say_what_passes, workloads_stand_for_their_pods,
@@ -25,3 +28,4 @@ pub use rows_of_addresses::{
     address_rows, address_rows_by_kind, pod_for_addresses, rows_by_addresses,
 };
 pub use rows_of_pairs::pair_rows;
+pub use shared_rows::SharedRows;
