@@ -8,11 +8,11 @@ ghost use Rattle.np_table.specs.Rows as table;
 ghost use Rattle.np_table.specs.Table.{estate_table};
 ghost use Rattle.np_table.specs.ToCome as spec;
 
+use crate::known_addresses::KnownAddresses;
 use crate::row_cache::RowCache;
 use crate::rows::{AddressRow, Row, RowEnd, RowKey};
 use crate::rows_by_kind::{WorkloadPair, rows_by_kind};
-use crate::rows_of_addresses::rows_by_addresses;
-use np_base::{NoMemory, Seq, Steps};
+use np_base::{Cells, NoMemory, Seq, Steps};
 use np_fold::{Folded, Workloads};
 use np_kinds::{KindReach, Sides};
 use np_model::Direction;
@@ -35,6 +35,8 @@ pub struct Rows<'a> {
     end: u64,
     // What is known of the rows from the source at that place.
     kept: RowCache,
+    // What is known of the rows of addresses.
+    known: KnownAddresses<'a>,
     // Rows that were made and not given, the last one first.
     ready: Vec<Row>,
 }
@@ -49,13 +51,14 @@ impl<'a> Drop for Rows<'a> {
             place: _place,
             end: _end,
             kept: _kept,
+            known: _known,
             ready: _ready,
         } = self;
     }
 }
 
 impl<'a> Model for Rows<'a> {
-    ghost use Rattle.std.specs.Prelude.{◌++◌, reverse};
+    ghost use Rattle.std.specs.Prelude.{◌≡◌, ◌++◌, reverse};
     ghost use Rattle.np_fold.specs.Workloads.{folding_of};
     ghost use Rattle.np_kinds.specs.Kinds.{IsKindReach};
     ghost use Rattle.np_table.specs.Table.{estate_table};
@@ -68,7 +71,8 @@ impl<'a> Model for Rows<'a> {
       due = due_from r.sides.lists (folding_of r.sides.lists) r.place r.kept;
     } };
 
-    ghost invariant = { λ r. IsUnderWay r.sides.lists r.place r.end r.kept × IsKindReach r.sides.lists r.reach };
+    ghost invariant = { λ r. IsUnderWay r.sides.lists r.place r.end r.kept × IsKindReach r.sides.lists r.reach
+        × (r.known ≡ r.sides.lists) };
 }
 
 impl<'a> Rows<'a> {
@@ -87,6 +91,7 @@ impl<'a> Rows<'a> {
             place: 0,
             end,
             kept: RowCache::nothing(alloc),
+            known: KnownAddresses::new(alloc, folded),
             ready: Vec::new(alloc),
         }
     }
@@ -108,11 +113,11 @@ impl<'a> Rows<'a> {
             }
             self.place = pass_over(folded, &self.reach, self.place);
             let rows = rows_at(
-                self.alloc,
                 &mut self.sides,
                 &self.reach,
                 self.place,
                 &mut self.kept,
+                &mut self.known,
                 steps,
             )?;
             self.ready = in_reverse(rows);
@@ -182,19 +187,21 @@ fn pass_over(folded: &Folded, reach: &KindReach, place: u64) -> u64
 
 // The rows at a place. What is kept is made ready for the next place.
 fn rows_at<L: Ledger>(
-    alloc: Global,
     sides: &mut Sides<'_>,
     reach: &KindReach,
     place: u64,
     kept: &mut RowCache,
+    known: &mut KnownAddresses<'_>,
     steps: &mut Steps<L>,
 ) -> Result<Seq<Row>, NoMemory>
     requires reach { IsKindReach sides.old.lists reach.now }
     requires place { place < spec.place_count (number_of_workloads sides.old.lists) }
     requires few { length kept.old ≤ (folding_of sides.old.lists).kind_count }
     requires kept { IsCached sides.old.lists (folding_of sides.old.lists) (place / number_of_workloads sides.old.lists) kept.old }
+    requires known { known.old ≡ sides.old.lists }
     ensures rows { IfOk result (λ made. made ≡ spec.rows_at (estate_table sides.old.lists) place) }
     ensures lists { sides.new.lists ≡ sides.old.lists }
+    ensures known { known.new ≡ known.old }
     ensures few { length kept.new ≤ (folding_of sides.old.lists).kind_count }
     ensures kept { let lists = sides.old.lists in
         OnOk result (IsCached lists (folding_of lists) ((place + 1) / number_of_workloads lists) kept.new) }
@@ -208,8 +215,9 @@ fn rows_at<L: Ledger>(
     let count = u64::from(sides.folded().workloads().count());
     let pairs = count * count;
     if place >= pairs {
-        return address_rows_at(alloc, sides, place - pairs, steps);
+        return address_rows_at(sides, place - pairs, known, steps);
     }
+    let alloc = known.alloc();
     let pair = WorkloadPair {
         source: (place / count) as u32,
         destination: (place % count) as u32,
@@ -223,15 +231,17 @@ fn rows_at<L: Ledger>(
 
 // The rows of addresses at a place behind the pairs.
 fn address_rows_at<L: Ledger>(
-    alloc: Global,
     sides: &mut Sides<'_>,
     place: u64,
+    known: &mut KnownAddresses<'_>,
     steps: &mut Steps<L>,
 ) -> Result<Seq<Row>, NoMemory>
     requires few { number_of_workloads sides.old.lists < 2 ^ 32 }
     requires place { place < 2 * number_of_workloads sides.old.lists }
+    requires known { known.old ≡ sides.old.lists }
     ensures rows { IfOk result (λ made. made ≡ spec.address_rows_at (estate_table sides.old.lists) place) }
     ensures lists { sides.new.lists ≡ sides.old.lists }
+    ensures known { known.new ≡ known.old }
     ensures most { steps.new ≤ steps.old + spec.most_rules sides.old.lists (folding_of sides.old.lists) }
     ensures least { steps.old ≤ steps.new }
 {
@@ -240,8 +250,8 @@ fn address_rows_at<L: Ledger>(
     sides.ask(direction, workload)?;
     let near = sides.at(direction, workload);
     near.count(steps);
-    let rows = rows_by_addresses(alloc, near)?;
-    with_keys(alloc, rows, workload, direction)
+    let rows = known.rows_of(sides, workload, direction)?;
+    with_keys(known.alloc(), rows.items(), workload, direction)
 }
 
 // The direction of the addresses at a place.
@@ -258,29 +268,28 @@ fn direction_at(place: u64) -> Direction
 // The rows of addresses with their two ends.
 fn with_keys(
     alloc: Global,
-    rows: Seq<AddressRow>,
+    rows: &[AddressRow],
     workload: u32,
     direction: Direction,
 ) -> Result<Seq<Row>, NoMemory>
-    ensures { IfOk result (λ made. made ≡ map (table.row_of workload direction) rows) }
+    ensures { IfOk result (λ made. made ≡ map (table.row_of workload direction) rows.now) }
 {
     let mut made = Seq::new(alloc);
-    for row in rows.into_vec() {
-        made.push(row_of(row, workload, direction))?;
+    for row in rows {
+        made.push(row_of(row, workload, direction)?)?;
     }
     Ok(made)
 }
 
 // A row of addresses with its two ends.
-fn row_of(row: AddressRow, workload: u32, direction: Direction) -> Row
-    ensures { result ≡ table.row_of workload direction row }
+fn row_of(row: &AddressRow, workload: u32, direction: Direction) -> Result<Row, NoMemory>
+    ensures { IfOk result (λ made. made ≡ table.row_of workload direction row.now) }
 {
-    let AddressRow { span, conns } = row;
-    Row {
-        key: key_of(workload, direction, RowEnd::Span(span)),
+    Ok(Row {
+        key: key_of(workload, direction, RowEnd::Span(row.span)),
         family: None,
-        conns,
-    }
+        conns: row.conns.copy()?,
+    })
 }
 
 // The ends of a row of addresses: in the direction of ingress the addresses are the source.

@@ -72,6 +72,11 @@ impl<'a> KnownAddresses<'a> {
         }
     }
 
+    /// Where the memory of what is made comes from.
+    pub(crate) fn alloc(&self) -> Global {
+        self.alloc
+    }
+
     /// What passes between a workload and each address, as `address_rows` has it. It is found once, while there is room, for all
     /// workloads of which one pod stands for each (`pod_for_addresses`); where it takes too much memory to be kept, it is found
     /// each time. `NoMemory` comes where there is none to find it, or to keep it: what was kept stays right.

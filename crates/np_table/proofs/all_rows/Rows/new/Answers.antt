@@ -1,4 +1,4 @@
-use Rattle.std.proofs.Common.{length, arith, ap, ◌∙◌}
+use Rattle.std.proofs.Common.{length, arith, ap, sym, ◌∙◌}
 use Rattle.np_fold.specs.Prelude.{Folding, folding_of}
 use Rattle.np_table.proofs.DueLemmas.{due_from-start}
 use Rattle.np_table.proofs.KindLemmas.{IsCached-nothing}
@@ -16,10 +16,11 @@ invariant_of-result c = (
     keeps = rw c.nothing-2.ensures (IsCached-nothing c.args.folded.now (folding_of c.args.folded.now) _);
   }),
   c.nothing.ensures c.new.result.lists,
+  c.new-2.ensures ∙ sym c.new.ensures,
 )
 
 pub returns-clause-rows : goal.returns-clause-rows
-returns-clause-rows c = rw (c.new-2.ensures.items, c.new.ensures) (all_rows-from (estate_table c.args.folded.now))
+returns-clause-rows c = rw (c.new-3.ensures.items, c.new.ensures) (all_rows-from (estate_table c.args.folded.now))
 
 pub returns-clause-due : goal.returns-clause-due
 returns-clause-due c = rw (c.nothing-2.ensures, c.new.ensures) (due_from-start c.args.folded.now (folding_of c.args.folded.now))

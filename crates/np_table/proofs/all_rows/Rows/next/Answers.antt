@@ -21,6 +21,7 @@ loop-folded-init g c = record {
   under_way = c.self.invariant.0;
   lists = c.folded-folded.ensures;
   reach = subst (λ (lists : EstateLists). IsKindReach lists c.ask_reach.new.reach) c.folded-folded.ensures c.ask_reach.ensures;
+  known = c.self.invariant.2;
   counted = omega (arith, ap (λ (to_come : RowsToCome). to_come.due) c.self.view_is);
   least = omega arith;
 }
@@ -52,6 +53,7 @@ loop-folded-preserved g c =
       });
       lists = c.loop-folded.invariant.lists ∙ sym c.in_ok-rows.ensures.lists;
       reach = rw c.in_ok-rows.ensures.lists c.loop-folded.invariant.reach;
+      known = c.in_ok-rows.ensures.known ∙ c.loop-folded.invariant.known ∙ sym c.in_ok-rows.ensures.lists;
       counted = rw c.in_ok-rows.ensures.lists (omega (
         arith,
         c.in_ok-rows.ensures.counted,

@@ -11,6 +11,7 @@ invariant-loop-folded g l = record {
   under_way : IsUnderWay l.self-inside.sides.lists l.self-inside.place l.self-inside.end l.self-inside.kept;
   lists : l.folded ≡ l.self-inside.sides.lists;
   reach : IsKindReach l.self-inside.sides.lists l.self-inside.reach;
+  known : l.self-inside.known ≡ l.self-inside.sides.lists;
   counted : l.steps + due_from l.self-inside.sides.lists (folding_of l.self-inside.sides.lists) l.self-inside.place l.self-inside.kept ≤ l.fn.steps + l.fn.self.due;
   least : l.fn.steps ≤ l.steps;
 }
