@@ -1,63 +1,74 @@
--- The mentions of the rules that speak of a pod, policy by policy. For `add_admin_policies`, `add_baseline` and 2 more.
-use Rattle.std.proofs.Common.{◌≡◌, ℕ, ◌+◌, List, [], ◌∷◌, ◌++◌, Bool, true, false, Some, map, refl, sym, ap, ◌∙◌, if◌then◌else◌, unwrap_or}
-use Rattle.std.proofs.lemmas.List.Sums.{fold-append}
+-- The mentions of the rules that speak of a pod, and each of them once. For `mentions` and `each_once`.
+use Rattle.std.proofs.Common.{◌≡◌, ℕ, ◌<◌, List, [], ◌∷◌, ◌++◌, Bool, true, false, get_or, length, Option, refl, sym, subst, ap, ◌∙◌, if◌then◌else◌, unwrap_or}
+use Rattle.std.proofs.lemmas.Bool.{and_parts}
 use Rattle.std.proofs.lemmas.List.Concat.{flat_map-append}
+use Rattle.std.proofs.lemmas.List.Folds.{flat_map-map}
+use Rattle.std.proofs.lemmas.List.Sums.{fold-append}
+use Rattle.std.proofs.lemmas.Option.{slice_get_read}
+use Rattle.std.proofs.lemmas.Slice.Eq.{bytes_eq-Decides}
 use Rattle.std.specs.List.{enumerate_from, flat_map, list_any}
-use Rattle.np_exposure.specs.Prelude.{AdminPolicy, BasePolicy, Direction, NetPolicy, SidedRequirement, each_once, is_same, of_admin_rule, of_net_rule, of_placed, with_more}
-use Rattle.np_rules.specs.Prelude.{PodEnd, admin_places, admin_places_of, admin_rules_of, base_places, base_rules_of, net_places, net_places_of, net_rules_of, net_selects, subject_selects}
+use Rattle.std.specs.Option.{option_map_or}
+use Rattle.std.specs.Str.{bytes_eq}
+use Rattle.np_exposure.specs.Prelude.{AdminRule, Direction, NetPolicy, NetRule, SidedRequirement, each_once, is_same, mentions, of_admin_rule, of_net_rule, of_placed, with_more}
+use Rattle.np_labels.specs.Prelude.{meets_selector}
+use Rattle.np_model.specs.declared.pod.Pod.{Pod}
+use Rattle.np_rules.proofs.LayerLemmas.{placed_in}
+use Rattle.np_rules.proofs.NetTierLemmas.{places_by}
+use Rattle.np_rules.specs.Prelude.{EstateLists, KeepsRules, PlacedNetRule, PodEnd, PodSide, admin_places, base_places, near_pod, net_places, net_places_of, net_rules_of, net_selects, no_pod, pod_end, side_of}
 
--- one list of lists after the other
-flat_map-flat_map : {X Y Z : Type 0} (f : Y → List Z) (g : X → List Y) (xs : List X) → flat_map f (flat_map g xs) ≡ flat_map (λ x. flat_map f (g x)) xs
-flat_map-flat_map f g [] = refl
-flat_map-flat_map {Z = Z} f g (x ∷ xs) =
-    flat_map-append f (g x) (flat_map g xs) ∙ ap (λ (rest : List Z). flat_map f (g x) ++ rest) (flat_map-flat_map f g xs)
+-- what a rule of a NetworkPolicy mentions as a rule of a namespace
+abbrev of_rule_in : List ℕ → PlacedNetRule → List SidedRequirement
+of_rule_in namespace placed = of_net_rule namespace placed.rule
 
-flat_map-same : {X Y : Type 0} (f g : X → List Y) → ((x : X) → f x ≡ g x) → (xs : List X) → flat_map f xs ≡ flat_map g xs
-flat_map-same f g same [] = refl
-flat_map-same {Y = Y} f g same (x ∷ xs) =
-    ap (λ (front : List Y). front ++ flat_map f xs) (same x) ∙ ap (λ (rest : List Y). g x ++ rest) (flat_map-same f g same xs)
+-- A policy that selects a pod is of the pod's namespace, so its rules mention what rules of that do.
+mentions_in_namespace : (direction : Direction) (p : PodEnd) (policies : List NetPolicy) →
+    flat_map of_placed (net_places policies direction p) ≡ flat_map (of_rule_in p.namespace) (net_places policies direction p)
+mentions_in_namespace direction p [] = refl
+mentions_in_namespace direction p (policy ∷ policies) =
+    flat_map-append of_placed (places_by direction p policy) (net_places policies direction p)
+    ∙ ap (λ (front : List SidedRequirement). front ++ flat_map of_placed (net_places policies direction p)) (here (net_selects policy p) refl)
+    ∙ ap (λ (rest : List SidedRequirement). flat_map (of_rule_in p.namespace) (places_by direction p policy) ++ rest) (mentions_in_namespace direction p policies)
+    ∙ sym (flat_map-append (of_rule_in p.namespace) (places_by direction p policy) (net_places policies direction p))
+  where
+    numbered : List (ℕ × NetRule)
+    numbered = enumerate_from 0 (unwrap_or (net_rules_of direction policy) [])
 
-flat_map-if : {X Y : Type 0} (f : X → List Y) (b : Bool) (xs : List X) → flat_map f (if b then xs else []) ≡ (if b then flat_map f xs else [])
-flat_map-if f true xs = refl
-flat_map-if f false xs = refl
+    here : (b : Bool) → net_selects policy p ≡ b →
+        flat_map of_placed (if b then net_places_of direction policy else []) ≡ flat_map (of_rule_in p.namespace) (if b then net_places_of direction policy else [])
+    here true selects =
+        let own = (bytes_eq-Decides policy.namespace p.namespace).0 (and_parts (bytes_eq policy.namespace p.namespace) (meets_selector policy.subject p.labels) selects).0 in
+        flat_map-map of_placed (placed_in policy) numbered
+        ∙ ap (λ (namespace : List ℕ). flat_map (λ (one : ℕ × NetRule). of_net_rule namespace one.1) numbered) own
+        ∙ sym (flat_map-map (of_rule_in p.namespace) (placed_in policy) numbered)
+    here false selects = refl
 
--- places change nothing
-flat_map-numbered : {X Y Z : Type 0} (f : Y → List Z) (make : ℕ × X → Y) (g : X → List Z) → ((numbered : ℕ × X) → f (make numbered) ≡ g numbered.1) → (n : ℕ) (xs : List X) →
-    flat_map f (map make (enumerate_from n xs)) ≡ flat_map g xs
-flat_map-numbered f make g same n [] = refl
-flat_map-numbered {Z = Z} f make g same n (x ∷ xs) =
-    ap (λ (front : List Z). front ++ flat_map f (map make (enumerate_from (n + 1) xs))) (same (n, x)) ∙ ap (λ (rest : List Z). g x ++ rest) (flat_map-numbered f make g same (n + 1) xs)
+-- the namespace of a pod of the estate is that of the near pod
+pub near-namespace : (lists : EstateLists) (place : ℕ) (direction : Direction) (pods : List Pod) (near : Pod) → pods ≡ lists.pods → place < length lists.pods → near ≡ get_or pods place near →
+    near.namespace ≡ (near_pod (side_of lists place direction)).namespace
+near-namespace lists place direction pods near same within at =
+    sym (ap (λ (found : Option Pod). (option_map_or pod_end found no_pod).namespace)
+    (slice_get_read lists.pods (length lists.pods) place near refl within (at ∙ ap (λ (ps : List Pod). get_or ps place near) same)))
 
--- what an admin policy mentions, if it selects the pod
-abbrev pub of_admin_policy : Direction → PodEnd → AdminPolicy → List SidedRequirement
-of_admin_policy direction p policy = if subject_selects policy.subject p then flat_map of_admin_rule (admin_rules_of direction policy) else []
-
-pub admin_mentions : (direction : Direction) (p : PodEnd) (policies : List AdminPolicy) →
-    flat_map (of_admin_policy direction p) policies ≡ flat_map (λ placed. of_admin_rule placed.rule) (admin_places policies direction p)
-admin_mentions direction p policies =
-    sym (flat_map-flat_map (λ placed. of_admin_rule placed.rule) (λ policy. if subject_selects policy.subject p then admin_places_of direction policy else []) policies
-    ∙ flat_map-same _ (of_admin_policy direction p) (λ policy.
-    flat_map-if (λ placed. of_admin_rule placed.rule) (subject_selects policy.subject p) (admin_places_of direction policy)
-    ∙ ap (λ (all : List SidedRequirement). if subject_selects policy.subject p then all else []) (flat_map-numbered _ _ of_admin_rule (λ numbered. refl) 0 (admin_rules_of direction policy))) policies)
-
--- what a NetworkPolicy mentions, if it selects the pod
-abbrev pub of_net_policy : Direction → PodEnd → NetPolicy → List SidedRequirement
-of_net_policy direction p policy = if net_selects policy p then flat_map (of_net_rule policy.namespace) (unwrap_or (net_rules_of direction policy) []) else []
-
-pub net_mentions : (direction : Direction) (p : PodEnd) (policies : List NetPolicy) → flat_map (of_net_policy direction p) policies ≡ flat_map of_placed (net_places policies direction p)
-net_mentions direction p policies =
-    sym (flat_map-flat_map of_placed (λ policy. if net_selects policy p then net_places_of direction policy else []) policies
-    ∙ flat_map-same _ (of_net_policy direction p) (λ policy.
-    flat_map-if of_placed (net_selects policy p) (net_places_of direction policy)
-    ∙ ap (λ (all : List SidedRequirement). if net_selects policy p then all else [])
-    (flat_map-numbered _ _ (of_net_rule policy.namespace) (λ numbered. refl) 0 (unwrap_or (net_rules_of direction policy) []))) policies)
-
--- what the baseline mentions, if it selects the pod
-pub base_mentions : (direction : Direction) (p : PodEnd) (policy : BasePolicy) →
-    flat_map (λ placed. of_admin_rule placed.rule) (base_places (Some policy) direction p) ≡ (if subject_selects policy.subject p then flat_map of_admin_rule (base_rules_of direction policy) else [])
-base_mentions direction p policy =
-    flat_map-if (λ placed. of_admin_rule placed.rule) (subject_selects policy.subject p) _
-    ∙ ap (λ (all : List SidedRequirement). if subject_selects policy.subject p then all else []) (flat_map-numbered _ _ of_admin_rule (λ numbered. refl) 0 (base_rules_of direction policy))
+-- What the rules of a side mention, tier after tier, is what it mentions.
+pub mentioned : (side kept : PodSide) (admin base : List AdminRule) (isolated : Bool) (net : List NetRule) → KeepsRules kept admin isolated net base → kept ≡ side →
+    (namespace : List ℕ) → namespace ≡ (near_pod side).namespace → (one two three : List SidedRequirement) →
+    one ≡ flat_map of_admin_rule admin → two ≡ one ++ flat_map (of_net_rule namespace) net → three ≡ two ++ flat_map of_admin_rule base → three ≡ mentions side
+unfolding mentions
+mentioned side kept admin base isolated net keeps same namespace own one two three first second third =
+    let kept_is : KeepsRules side admin isolated net base = subst (λ (is : PodSide). KeepsRules is admin isolated net base) same keeps in
+    rw (
+      third,
+      second,
+      first,
+      own,
+      kept_is.admin_rules,
+      kept_is.net_rules,
+      kept_is.base_rules,
+      flat_map-map of_admin_rule (λ placed. placed.rule) (admin_places side.lists.admin_policies side.direction (near_pod side)),
+      flat_map-map of_admin_rule (λ placed. placed.rule) (base_places side.lists.baseline side.direction (near_pod side)),
+      flat_map-map (of_net_rule (near_pod side).namespace) (λ placed. placed.rule) (net_places side.lists.net_policies side.direction (near_pod side)),
+      mentions_in_namespace side.direction (near_pod side) side.lists.net_policies,
+    ) refl
 
 -- ---- each once
 

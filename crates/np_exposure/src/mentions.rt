@@ -1,26 +1,20 @@
 //! The requirements that the rules mention that speak of a pod.
-ghost use Rattle.std.specs.Prelude.{◌≡◌, ◌++◌, ◌∷◌, [], ◌<◌, flat_map, length, unwrap_or, if◌then◌else◌, IfOk, OnOk};
+ghost use Rattle.std.specs.Prelude.{◌≡◌, ◌++◌, ◌∷◌, [], ◌<◌, flat_map, length, IfOk, OnOk};
 ghost use Rattle.std.specs.Option.{option_copied};
 ghost use Rattle.np_exposure.specs.Mentions as spec;
-ghost use Rattle.np_rules.specs.Prelude.{pod_end, side_of};
-ghost use Rattle.np_rules.specs.model.Places as places;
-ghost use Rattle.np_rules.specs.model.Selection as selection;
+ghost use Rattle.np_rules.specs.Prelude.{side_of};
 
 use crate::side::Side;
 use crate::sided_requirement::SidedRequirement;
 use np_base::{NoMemory, Text};
 use np_labels::{Requirement, Selector};
-use np_model::{
-    AdminPeer, AdminPolicy, AdminRule, BasePolicy, Direction, Estate, NetPeer, NetPolicy, Pod,
-    Subject,
-};
-use np_rules::{admin_policy_selects, admin_rules_of, net_policy_selects, net_rules_of};
+use np_model::{AdminPeer, AdminRule, Direction, Estate, NetPeer, NetRule};
+use np_rules::PodRules;
 use std::alloc::Global;
 
 /// The requirements that the peers mention of the rules that speak of a pod in a direction, in the order in which these
 /// are written: those of the AdminNetworkPolicies by priority, of the NetworkPolicies by name, and of the baseline. One
 /// that is mentioned twice stands twice.
-#[tactic(auto, unfolding(crate::specs::Mentions::mentions))]
 pub(crate) fn mentions(
     alloc: Global,
     estate: &Estate,
@@ -30,96 +24,27 @@ pub(crate) fn mentions(
     requires { pod < length estate.now.pods }
     ensures { IfOk result (λ made. made.items ≡ spec.mentions (side_of estate.now pod direction)) }
 {
+    let rules = PodRules::of(alloc, estate, pod, direction)?.rules(alloc)?;
     let near = &estate.pods()[pod as usize];
     let mut made = Vec::new(alloc);
-    add_admin_policies(&mut made, estate.admin_policies(), direction, near)?;
-    add_net_policies(&mut made, estate.net_policies(), direction, near)?;
-    add_baseline(&mut made, estate.baseline(), direction, near)?;
+    add_admin_rules(&mut made, &rules.admin)?;
+    add_net_rules(&mut made, near.namespace.as_str(), &rules.net)?;
+    add_base_rules(&mut made, rules.base)?;
     Ok(made)
 }
 
-// Adds what the rules mention of the AdminNetworkPolicies that select the pod.
-fn add_admin_policies(
-    made: &mut Vec<SidedRequirement>,
-    policies: &[AdminPolicy],
-    direction: Direction,
-    near: &Pod,
-) -> Result<(), NoMemory>
-    ensures { OnOk result (made.new.items ≡ made.old.items
-        ++ flat_map (λ placed. spec.of_admin_rule placed.rule) (places.admin_places policies.now direction (pod_end near.now))) }
+// Adds what the rules of AdminNetworkPolicies mention.
+fn add_admin_rules(made: &mut Vec<SidedRequirement>, rules: &[&AdminRule]) -> Result<(), NoMemory>
+    ensures { OnOk result (made.new.items ≡ made.old.items ++ flat_map (λ rule. spec.of_admin_rule rule.now) rules.now) }
 {
-    for policy in policies {
-        if admin_policy_selects(&policy.subject, near) {
-            add_admin_rules(made, admin_rules_of(policy, direction))?;
-        }
+    for rule in rules {
+        add_admin_peers(made, rule.peers.items())?;
     }
     Ok(())
 }
 
-// Adds what the rules mention of the NetworkPolicies that select the pod.
-fn add_net_policies(
-    made: &mut Vec<SidedRequirement>,
-    policies: &[NetPolicy],
-    direction: Direction,
-    near: &Pod,
-) -> Result<(), NoMemory>
-    ensures { OnOk result (made.new.items ≡ made.old.items
-        ++ flat_map spec.of_placed (places.net_places policies.now direction (pod_end near.now))) }
-{
-    for policy in policies {
-        if net_policy_selects(policy, near) {
-            add_net_rules(made, policy, direction)?;
-        }
-    }
-    Ok(())
-}
-
-// Adds what the rules mention of the baseline, where there is one and it selects the pod.
-fn add_baseline(
-    made: &mut Vec<SidedRequirement>,
-    baseline: Option<&BasePolicy>,
-    direction: Direction,
-    near: &Pod,
-) -> Result<(), NoMemory>
-    ensures { OnOk result (made.new.items ≡ made.old.items
-        ++ flat_map (λ placed. spec.of_admin_rule placed.rule)
-        (places.base_places (option_copied baseline.entry) direction (pod_end near.now))) }
-{
-    match baseline {
-        Some(policy) => add_base_policy(made, policy, direction, near),
-        None => Ok(()),
-    }
-}
-
-// Adds what the rules mention of the baseline, where it selects the pod.
-fn add_base_policy(
-    made: &mut Vec<SidedRequirement>,
-    policy: &BasePolicy,
-    direction: Direction,
-    near: &Pod,
-) -> Result<(), NoMemory>
-    ensures { OnOk result (made.new.items ≡ made.old.items
-        ++ (if selection.subject_selects policy.now.subject (pod_end near.now)
-        then flat_map spec.of_admin_rule (places.base_rules_of direction policy.now) else [])) }
-{
-    if admin_policy_selects(&policy.subject, near) {
-        add_admin_rules(made, base_rules_of(policy, direction))?;
-    }
-    Ok(())
-}
-
-// The rules of a direction.
-fn base_rules_of(policy: &BasePolicy, direction: Direction) -> &[AdminRule]
-    ensures { result.now ≡ places.base_rules_of direction policy.now }
-{
-    match direction {
-        Direction::Ingress => policy.ingress.items(),
-        Direction::Egress => policy.egress.items(),
-    }
-}
-
-// Adds what admin rules mention.
-fn add_admin_rules(made: &mut Vec<SidedRequirement>, rules: &[AdminRule]) -> Result<(), NoMemory>
+// Adds what the rules of the baseline mention.
+fn add_base_rules(made: &mut Vec<SidedRequirement>, rules: &[AdminRule]) -> Result<(), NoMemory>
     ensures { OnOk result (made.new.items ≡ made.old.items ++ flat_map spec.of_admin_rule rules.now) }
 {
     for rule in rules {
@@ -151,18 +76,17 @@ fn add_admin_peer(made: &mut Vec<SidedRequirement>, peer: &AdminPeer) -> Result<
     }
 }
 
-// Adds what the rules of a NetworkPolicy mention, of which there are none where the direction is not among its types.
+// Adds what the rules of NetworkPolicies of this namespace mention.
 fn add_net_rules(
     made: &mut Vec<SidedRequirement>,
-    policy: &NetPolicy,
-    direction: Direction,
+    namespace: &str,
+    rules: &[&NetRule],
 ) -> Result<(), NoMemory>
     ensures { OnOk result (made.new.items ≡ made.old.items
-        ++ flat_map (spec.of_net_rule policy.now.namespace) (unwrap_or (places.net_rules_of direction policy.now) [])) }
+        ++ flat_map (λ rule. spec.of_net_rule namespace.now rule.now) rules.now) }
 {
-    let rules = net_rules_of(policy, direction).unwrap_or(&[]);
     for rule in rules {
-        add_net_peers(made, policy.namespace.as_str(), rule.peers.items())?;
+        add_net_peers(made, namespace, rule.peers.items())?;
     }
     Ok(())
 }

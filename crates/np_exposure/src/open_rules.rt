@@ -80,6 +80,27 @@ impl<'r> OpenRules<'r> {
         self.copy(alloc, narrowed)
     }
 
+    /// Settles the rules as far as the choices that are left tell, as `settled_by` does. Where it does not, they stay as they are,
+    /// and none is copied.
+    pub(crate) fn settle(
+        &mut self,
+        alloc: Global,
+        namespace: &str,
+        state: &[KeyChoices<'_>],
+        asked: &SidedRequirement,
+    ) -> Result<(), NoMemory>
+        ensures { OnOk result ((s : Stranger) → IsWitness state.now s → (spot : PortSpot) →
+            permits namespace.now self.new s spot ≡ permits namespace.now self.old s spot) }
+    {
+        let narrowed = self.narrowed_by(state, asked);
+        if can_settle(state) {
+            *self = self.with_settled(alloc, namespace, state, narrowed)?;
+            return Ok(());
+        }
+        self.narrowed = narrowed;
+        Ok(())
+    }
+
     // The keys at which fewer choices may be left, where those at one more are.
     fn narrowed_by(&self, state: &[KeyChoices<'_>], asked: &SidedRequirement) -> KeySet {
         let key = asked.requirement.key.as_str();

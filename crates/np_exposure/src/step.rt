@@ -68,7 +68,7 @@ fn fork<'a, 'r>(
     let wanted = count(&met) <= count(&unmet);
     let (state, next) = if wanted { (met, unmet) } else { (unmet, met) };
     let net = left.net.settled_by(alloc, namespace, &state, asked)?;
-    left.net = left.net.settled_by(alloc, namespace, &next, asked)?;
+    left.net.settle(alloc, namespace, &next, asked)?;
     left.state = next;
     Ok(Some(Aside {
         wanted,

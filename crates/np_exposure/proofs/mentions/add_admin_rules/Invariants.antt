@@ -3,4 +3,4 @@ use Rattle.np_exposure.specs.Prelude.{of_admin_rule}
 use Rattle.np_exposure.proofs.mentions.add_admin_rules.Given as goal
 
 abbrev pub invariant-loop-rule : goal.invariant-loop-rule
-invariant-loop-rule l = l.made.items ≡ l.fn.made.items ++ flat_map of_admin_rule (take l.rule-index l.rules)
+invariant-loop-rule l = l.made.items ≡ l.fn.made.items ++ flat_map (λ rule. of_admin_rule rule.now) (take l.rule-index l.rules)
