@@ -18,7 +18,6 @@ use np_conns::ConnSet;
 use np_fold::Folded;
 use np_kinds::first_pod;
 use np_model::{Direction, NetPolicy, NetRule};
-use np_table::address_rows;
 use std::marker::Model;
 
 /// The flat policies of an estate, one for each group of workloads: those of one namespace whose pods have the same values of
@@ -113,9 +112,10 @@ impl<'a> Flat<'a> {
     }
 
     // The egress of a group: to every pod, and then to addresses.
-    fn egress_rules(&self, group: u32) -> Result<Seq<NetRule>, NoMemory>
-        requires { group < group_count self.now }
-        ensures { IfOk result (λ made. made ≡ spec.egress_rules self.now group) }
+    fn egress_rules(&mut self, group: u32) -> Result<Seq<NetRule>, NoMemory>
+        requires { group < group_count self.old }
+        ensures rules { IfOk result (λ made. made ≡ spec.egress_rules self.old group) }
+        ensures same { self.new ≡ self.old }
     {
         let alloc = self.passing.alloc();
         let mut rules = Seq::new(alloc);
@@ -208,16 +208,19 @@ impl<'a> Flat<'a> {
 
     // Adds the rules of the ranges of addresses of a group in a direction.
     fn add_rules_of_addresses(
-        &self,
+        &mut self,
         rules: &mut Seq<NetRule>,
         group: u32,
         direction: Direction,
     ) -> Result<(), NoMemory>
-        requires { group < group_count self.now }
-        ensures { OnOk result (rules.new ≡ rules.old ++ spec.rules_of_addresses (spec.group_rows self.now group direction)) }
+        requires { group < group_count self.old }
+        ensures rules { OnOk result
+            (rules.new ≡ rules.old ++ spec.rules_of_addresses (spec.group_rows self.old group direction)) }
+        ensures same { self.new ≡ self.old }
     {
         let alloc = self.passing.alloc();
-        let rows = address_rows(alloc, self.folded(), self.first(group), direction)?;
+        let first = self.first(group);
+        let rows = self.passing.with_addresses(first, direction)?;
         add_rules_of_addresses(alloc, rules, rows.items())
     }
 

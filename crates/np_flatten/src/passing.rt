@@ -1,25 +1,28 @@
-//! What passes between two workloads, by rules that are found once.
+//! What passes between two workloads, and between workloads and all addresses, by rules that are found once.
 ghost use Rattle.std.specs.Prelude.{◌≡◌, ◌≢◌, IfOk, None, Some, if◌then◌else◌};
 ghost use Rattle.np_fold.specs.Prelude.{folding_of};
 ghost use Rattle.np_flatten.specs.Faults as spec;
 ghost use Rattle.np_kinds.specs.Prelude.{IsWorkload, is_alone};
+ghost use Rattle.np_table.specs.Prelude.{address_rows, estate_table};
 
 use np_addr::Family;
 use np_base::{Cells, NoMemory};
 use np_conns::ConnSet;
 use np_fold::Folded;
 use np_kinds::{KindReach, Sides};
-use np_table::{pair_set, set_by_kinds};
+use np_model::Direction;
+use np_table::{KnownAddresses, SharedRows, pair_set, set_by_kinds};
 use std::alloc::Global;
 use std::marker::Model;
 
 /// For each kind of workloads of an estate the rules of the pod that stands for it, as it sends and as it receives, which are
 /// found when they are first asked for, and which kinds these let through at all. What they give between two workloads is made
-/// when it is asked for; what one side allows with a far pod is found once for all sides that are the same. Contracts see the
-/// lists of the estate.
+/// when it is asked for; what one side allows with a far pod, and what passes between it and each address, is found once for all
+/// sides that are the same. Contracts see the lists of the estate.
 pub(crate) struct Passing<'a> {
     alloc: Global,
     sides: Sides<'a>,
+    addresses: KnownAddresses<'a>,
     reach: KindReach,
 }
 
@@ -29,12 +32,14 @@ impl<'a> Drop for Passing<'a> {
         let Passing {
             alloc: _alloc,
             sides: _sides,
+            addresses: _addresses,
             reach: _reach,
         } = self;
     }
 }
 
 impl<'a> Model for Passing<'a> {
+    ghost use Rattle.std.specs.Prelude.{◌≡◌};
     ghost use Rattle.np_model.specs.declared.lists.EstateLists.{EstateLists};
     ghost use Rattle.np_kinds.specs.Kinds.{IsKindReach};
 
@@ -42,7 +47,7 @@ impl<'a> Model for Passing<'a> {
 
     ghost view = { λ p. p.sides.lists };
 
-    ghost invariant = { λ p. IsKindReach p.sides.lists p.reach };
+    ghost invariant = { λ p. (p.addresses ≡ p.sides.lists) × IsKindReach p.sides.lists p.reach };
 }
 
 impl<'a> Passing<'a> {
@@ -54,6 +59,7 @@ impl<'a> Passing<'a> {
         Ok(Passing {
             alloc,
             sides: Sides::new(alloc, folded),
+            addresses: KnownAddresses::new(alloc, folded),
             reach,
         })
     }
@@ -95,6 +101,19 @@ impl<'a> Passing<'a> {
         let folded = self.folded();
         let family = first_family(folded);
         pair_set(self.alloc, folded, workload, workload, family)
+    }
+
+    /// What passes between a workload and each address, as `address_rows` of np_table has it.
+    pub(crate) fn with_addresses(
+        &mut self,
+        workload: u32,
+        direction: Direction,
+    ) -> Result<SharedRows, NoMemory>
+        requires { IsWorkload self.old workload }
+        ensures rows { IfOk result (λ made. made ≡ address_rows (estate_table self.old) workload direction) }
+        ensures same { self.new ≡ self.old }
+    {
+        self.addresses.rows_of(&mut self.sides, workload, direction)
     }
 }
 
