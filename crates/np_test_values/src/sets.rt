@@ -76,11 +76,12 @@ fn operations_on_addresses(rt: HostRuntime) {
     expect_operations::<AddrSet>(&rt, rt.alloc(), first, second, "10.0.0.0/8");
 }
 
+// A set of more than two ranges is held otherwise than one of few.
 #[test]
 fn operations_on_connections(rt: HostRuntime) {
-    let (first, second) = ("TCP 80-89; SCTP 1,3-65535", "TCP 90,92; UDP 53");
-    let whole = "TCP 80-90,92; UDP 53; SCTP 1,3-65535";
-    expect_operations::<ConnSet>(&rt, rt.alloc(), first, second, whole);
+    let first = "TCP 80-89,100,200; SCTP 1,3-65535";
+    let whole = "TCP 80-90,92,100,200; UDP 53; SCTP 1,3-65535";
+    expect_operations::<ConnSet>(&rt, rt.alloc(), first, "TCP 90,92; UDP 53", whole);
 }
 
 // Equal neighbours are one piece.
