@@ -38,29 +38,22 @@ impl<'a> OfSource<&'a Estate> for KnownSide {
 /// The texts of the rows of sides that were found. Most sides of a cluster are the same as an earlier one, and to find rows takes
 /// far longer than to see that. Contracts see the lists of the estate.
 pub(crate) struct KnownRows<'a> {
-    estate: &'a Estate,
     kept: Kept<&'a Estate, KnownSide>,
 }
 
 // Written out, so that letting one go is one call.
 impl<'a> Drop for KnownRows<'a> {
     fn drop(self) {
-        let KnownRows {
-            estate: _estate,
-            kept: _kept,
-        } = self;
+        let KnownRows { kept: _kept } = self;
     }
 }
 
 impl<'a> Model for KnownRows<'a> {
-    ghost use Rattle.std.specs.Prelude.{◌≡◌};
     ghost use Rattle.np_model.specs.declared.lists.EstateLists.{EstateLists};
 
     ghost Value = { EstateLists };
 
-    ghost view = { λ k. k.estate.now };
-
-    ghost invariant = { λ k. k.kept.now ≡ k.estate.now };
+    ghost view = { λ k. k.kept.now };
 }
 
 impl<'a> KnownRows<'a> {
@@ -69,7 +62,6 @@ impl<'a> KnownRows<'a> {
         ensures { result ≡ estate.now }
     {
         KnownRows {
-            estate,
             kept: Kept::new(alloc, estate, MOST_BYTES),
         }
     }
@@ -79,8 +71,9 @@ impl<'a> KnownRows<'a> {
         requires { pod < length self.now.pods }
         ensures { IfSome result (λ rows. rows.now ≡ spec.peer_rows (side_of self.now pod direction)) }
     {
+        let estate = self.kept.source();
         let known = self.kept.find(mark)?;
-        if known.direction == direction && is_same_side(self.estate, known.pod, pod, direction) {
+        if known.direction == direction && is_same_side(estate, known.pod, pod, direction) {
             Some(known.rows.items())
         } else {
             None

@@ -32,29 +32,22 @@ impl<'a> OfSource<&'a Estate> for LightSide {
 /// Sides that were found to have no more patterns than are looked at. Most sides of a cluster are the same as an earlier one, and
 /// to gather what their rules mention takes far longer than to see that. Contracts see the lists of the estate.
 pub(crate) struct LightSides<'a> {
-    estate: &'a Estate,
     kept: Kept<&'a Estate, LightSide>,
 }
 
 // Written out, so that letting one go is one call.
 impl<'a> Drop for LightSides<'a> {
     fn drop(self) {
-        let LightSides {
-            estate: _estate,
-            kept: _kept,
-        } = self;
+        let LightSides { kept: _kept } = self;
     }
 }
 
 impl<'a> Model for LightSides<'a> {
-    ghost use Rattle.std.specs.Prelude.{◌≡◌};
     ghost use Rattle.np_model.specs.declared.lists.EstateLists.{EstateLists};
 
     ghost Value = { EstateLists };
 
-    ghost view = { λ l. l.estate.now };
-
-    ghost invariant = { λ l. l.kept.now ≡ l.estate.now };
+    ghost view = { λ l. l.kept.now };
 }
 
 impl<'a> LightSides<'a> {
@@ -63,7 +56,6 @@ impl<'a> LightSides<'a> {
         ensures { result ≡ estate.now }
     {
         LightSides {
-            estate,
             kept: Kept::new(alloc, estate, MOST_BYTES),
         }
     }
@@ -73,9 +65,10 @@ impl<'a> LightSides<'a> {
         requires { pod < length self.now.pods }
         ensures { OnTrue result (spec.HasFew self.now pod direction) }
     {
+        let estate = self.kept.source();
         match self.kept.find(mark) {
             Some(light) => {
-                light.direction == direction && is_same_side(self.estate, light.pod, pod, direction)
+                light.direction == direction && is_same_side(estate, light.pod, pod, direction)
             }
             None => false,
         }
