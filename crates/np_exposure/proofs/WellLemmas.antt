@@ -1,16 +1,17 @@
 -- The requirements of rows are as the policies have them that are read. For `requirements_of_read_policies_are_well` and crates above.
-use Rattle.std.proofs.Common.{◌≡◌, ℕ, List, [], ◌∷◌, ◌++◌, length, map, fold, flat_map, Bool, true, false, not, ◌&&◌, ◌==◌, Option, Some, None, is_some, unwrap_or, refl, sym, ap, ◌∙◌, if◌then◌else◌}
-use Rattle.std.specs.List.{list_all, list_any}
+use Rattle.std.proofs.Common.{◌≡◌, ℕ, ◌+◌, List, [], ◌∷◌, ◌++◌, length, map, fold, flat_map, Bool, true, false, not, ◌&&◌, ◌==◌, Option, Some, None, is_some, unwrap_or, refl, sym, ap, ◌∙◌, if◌then◌else◌}
+use Rattle.std.specs.List.{enumerate_from, list_all, list_any}
 use Rattle.std.specs.Option.{option_map_or}
 use Rattle.std.proofs.lemmas.Bool.{and_parts, and_from}
+use Rattle.std.proofs.lemmas.List.Concat.{flat_map-append}
 use Rattle.np_model.specs.Prelude.{has_slash, is_name, is_well, is_well_admin_peer, is_well_admin_policy, is_well_admin_rule, is_well_base_policy, is_well_base_rule, is_well_net_peer, is_well_net_policy, is_well_net_rule, is_word, is_worded, option_all}
-use Rattle.np_exposure.proofs.MentionLemmas.{admin_mentions, base_mentions, net_mentions, of_admin_policy, of_net_policy}
 use Rattle.np_exposure.specs.Prelude.{AdminPeer, AdminPolicy, AdminRule, AreRows, AreRowsAt, AreRowsOf, BasePolicy, Direction, Egress, ExposureRow, Ingress, IsJoined, IsPossible, Namespace, NetPeer, NetPolicy, NetRule, Pod, Requirement, Selector, Side, SidedRequirement, always, apart, are_well, either, equal, is_same, mentions, namespace_is, negated, never, of_admin_peer, of_admin_rule, of_namespaces, of_net_peer, of_net_rule, of_optional, of_placed, of_selector, requirements, with_first, with_more}
 use Rattle.np_labels.specs.WellFormed as labels
 use Rattle.np_model.specs.WellPolicies.{is_well_selector}
 use Rattle.np_model.specs.declared.admin_policy.AdminPeer.TheVariants as admin
 use Rattle.np_model.specs.declared.network_policy.NetPeer.TheVariants as net
-use Rattle.np_rules.specs.Prelude.{PodEnd, PodSide, admin_places, admin_rules_of, base_places, base_rules_of, near_pod, net_places, net_rules_of, net_selects, subject_selects}
+use Rattle.np_rules.proofs.LayerLemmas.{placed_in}
+use Rattle.np_rules.specs.Prelude.{PodEnd, PodSide, admin_places, admin_places_of, admin_rules_of, base_places, base_rules_of, near_pod, net_places, net_places_of, net_rules_of, net_selects, subject_selects}
 
 -- ---- lists
 
@@ -27,9 +28,27 @@ well-flat test f each (x ∷ xs) all =
     let parts = and_parts (test x) (list_all test xs) all in
     well-append (f x) (flat_map f xs) (each x parts.0) (well-flat test f each xs parts.1)
 
-well-if : (b : Bool) (xs : List SidedRequirement) → are_well xs ≡ true → are_well (if b then xs else []) ≡ true
-well-if true xs well = well
-well-if false xs well = refl
+-- places change nothing
+well-numbered : {X Y : Type 0} (test : X → Bool) (f : Y → List SidedRequirement) (make : ℕ × X → Y) → ((n : ℕ) (x : X) → test x ≡ true → are_well (f (make (n, x))) ≡ true) →
+    (n : ℕ) (xs : List X) → list_all test xs ≡ true → are_well (flat_map f (map make (enumerate_from n xs))) ≡ true
+well-numbered test f make each n [] all = refl
+well-numbered test f make each n (x ∷ xs) all =
+    let parts = and_parts (test x) (list_all test xs) all in
+    well-append (f (make (n, x))) (flat_map f (map make (enumerate_from (n + 1) xs))) (each n x parts.0) (well-numbered test f make each (n + 1) xs parts.1)
+
+-- nor does it that a policy may not select the pod
+well-chosen : {X : Type 0} (f : X → List SidedRequirement) (b : Bool) (xs : List X) → are_well (flat_map f xs) ≡ true → are_well (flat_map f (if b then xs else [])) ≡ true
+well-chosen f true xs well = well
+well-chosen f false xs well = refl
+
+-- policy by policy
+well-places : {X Y : Type 0} (test : X → Bool) (f : Y → List SidedRequirement) (places : X → List Y) → ((x : X) → test x ≡ true → are_well (flat_map f (places x)) ≡ true) →
+    (xs : List X) → list_all test xs ≡ true → are_well (flat_map f (flat_map places xs)) ≡ true
+well-places test f places each [] all = refl
+well-places test f places each (x ∷ xs) all =
+    let parts = and_parts (test x) (list_all test xs) all in
+    ap are_well (flat_map-append f (places x) (flat_map places xs))
+    ∙ well-append (flat_map f (places x)) (flat_map f (flat_map places xs)) (each x parts.0) (well-places test f places each xs parts.1)
 
 -- ---- peers
 
@@ -87,28 +106,31 @@ base_rule-well rule well = admin_rule-well rule (and_parts _ _ well).1
 
 -- ---- policies
 
-net_rules-well : (namespace : List ℕ) (rules : Option (List NetRule)) → is_name namespace ≡ true → option_all (λ all. list_all is_well_net_rule all) rules ≡ true →
-    are_well (flat_map (of_net_rule namespace) (unwrap_or rules [])) ≡ true
-net_rules-well namespace None name well = refl
-net_rules-well namespace (Some rules) name well = well-flat is_well_net_rule (of_net_rule namespace) (λ rule. net_rule-well namespace rule name) rules well
+net_rules-well : (rules : Option (List NetRule)) → option_all (λ all. list_all is_well_net_rule all) rules ≡ true → list_all is_well_net_rule (unwrap_or rules []) ≡ true
+net_rules-well None well = refl
+net_rules-well (Some rules) well = well
 
-net_policy-well : (direction : Direction) (p : PodEnd) (policy : NetPolicy) → is_well_net_policy policy ≡ true → are_well (of_net_policy direction p policy) ≡ true
+net_policy-well : (direction : Direction) (p : PodEnd) (policy : NetPolicy) → is_well_net_policy policy ≡ true →
+    are_well (flat_map of_placed (if net_selects policy p then net_places_of direction policy else [])) ≡ true
 net_policy-well direction p policy well =
     let egress = and_parts _ (option_all (λ all. list_all is_well_net_rule all) policy.egress) well in
     let ingress = and_parts _ (option_all (λ all. list_all is_well_net_rule all) policy.ingress) egress.0 in
     let names = and_parts (is_name policy.namespace && is_name policy.name) (is_well_selector policy.subject) ingress.0 in
     let name = and_parts (is_name policy.namespace) (is_name policy.name) names.0 in
-    well-if (net_selects policy p) (flat_map (of_net_rule policy.namespace) (unwrap_or (net_rules_of direction policy) []))
-    (net_rules-well policy.namespace (net_rules_of direction policy) name.0 (by direction ingress.1 egress.1))
+    well-chosen of_placed (net_selects policy p) (net_places_of direction policy)
+    (well-numbered is_well_net_rule of_placed (placed_in policy) (λ n rule. net_rule-well policy.namespace rule name.0) 0 (unwrap_or (net_rules_of direction policy) [])
+    (net_rules-well (net_rules_of direction policy) (by direction ingress.1 egress.1)))
   where
     by : (d : Direction) → option_all (λ all. list_all is_well_net_rule all) policy.ingress ≡ true → option_all (λ all. list_all is_well_net_rule all) policy.egress ≡ true →
         option_all (λ all. list_all is_well_net_rule all) (net_rules_of d policy) ≡ true
     by Ingress first second = first
     by Egress first second = second
 
-admin_policy-well : (direction : Direction) (p : PodEnd) (policy : AdminPolicy) → is_well_admin_policy policy ≡ true → are_well (of_admin_policy direction p policy) ≡ true
+admin_policy-well : (direction : Direction) (p : PodEnd) (policy : AdminPolicy) → is_well_admin_policy policy ≡ true →
+    are_well (flat_map (λ placed. of_admin_rule placed.rule) (if subject_selects policy.subject p then admin_places_of direction policy else [])) ≡ true
 admin_policy-well direction p policy well =
-    well-if (subject_selects policy.subject p) _ (well-flat is_well_admin_rule of_admin_rule admin_rule-well (admin_rules_of direction policy) (by direction))
+    well-chosen (λ placed. of_admin_rule placed.rule) (subject_selects policy.subject p) (admin_places_of direction policy)
+    (well-numbered is_well_admin_rule _ _ (λ n rule. admin_rule-well rule) 0 (admin_rules_of direction policy) (by direction))
   where
     by : (d : Direction) → list_all is_well_admin_rule (admin_rules_of d policy) ≡ true
     by Ingress = (and_parts _ _ (and_parts _ _ well).0).1
@@ -118,8 +140,8 @@ baseline-well : (direction : Direction) (p : PodEnd) (baseline : Option BasePoli
     are_well (flat_map (λ placed. of_admin_rule placed.rule) (base_places baseline direction p)) ≡ true
 baseline-well direction p None well = refl
 baseline-well direction p (Some policy) well =
-    ap are_well (base_mentions direction p policy) ∙ well-if (subject_selects policy.subject p) _
-    (well-flat is_well_base_rule of_admin_rule base_rule-well (base_rules_of direction policy) (by direction))
+    well-chosen (λ placed. of_admin_rule placed.rule) (subject_selects policy.subject p) _
+    (well-numbered is_well_base_rule _ _ (λ n rule. base_rule-well rule) 0 (base_rules_of direction policy) (by direction))
   where
     by : (d : Direction) → list_all is_well_base_rule (base_rules_of d policy) ≡ true
     by Ingress = (and_parts _ _ (and_parts _ _ well).0).1
@@ -133,10 +155,8 @@ mentions-well side well =
     let base = and_parts _ (option_map_or is_well_base_policy lists.baseline true) (and_parts _ _ (and_parts _ _ well).0).0 in
     let admins = and_parts _ (list_all is_well_admin_policy lists.admin_policies) base.0 in
     let nets = and_parts _ (list_all is_well_net_policy lists.net_policies) admins.0 in
-    let first = ap are_well (sym (admin_mentions side.direction p lists.admin_policies)) ∙ well-flat is_well_admin_policy (of_admin_policy side.direction p)
-    (admin_policy-well side.direction p) lists.admin_policies admins.1 in
-    let second = ap are_well (sym (net_mentions side.direction p lists.net_policies)) ∙ well-flat is_well_net_policy (of_net_policy side.direction p)
-    (net_policy-well side.direction p) lists.net_policies nets.1 in
+    let first = well-places is_well_admin_policy (λ placed. of_admin_rule placed.rule) _ (admin_policy-well side.direction p) lists.admin_policies admins.1 in
+    let second = well-places is_well_net_policy of_placed _ (net_policy-well side.direction p) lists.net_policies nets.1 in
     well-append (flat_map (λ placed. of_admin_rule placed.rule) (admin_places lists.admin_policies side.direction p) ++ flat_map of_placed (net_places lists.net_policies side.direction p))
     (flat_map (λ placed. of_admin_rule placed.rule) (base_places lists.baseline side.direction p))
     (well-append (flat_map (λ placed. of_admin_rule placed.rule) (admin_places lists.admin_policies side.direction p))
