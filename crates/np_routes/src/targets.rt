@@ -1,9 +1,8 @@
 //! The TCP ports to which routes lead at a pod.
-ghost use Rattle.std.specs.Prelude.{◌≡◌, ◌<◌, ◌&&◌, ◌||◌, true, ℕ, IfOk, OnOk, length};
+ghost use Rattle.std.specs.Prelude.{◌≡◌, ◌<◌, ◌||◌, true, ℕ, IfOk, OnOk, length};
 ghost use Rattle.std.specs.List.{list_any};
-ghost use Rattle.np_conns.specs.Prelude.{IsConns, has_spot, same_proto};
+ghost use Rattle.np_conns.specs.Prelude.{IsConns, has_spot};
 ghost use Rattle.np_conns.specs.declared.port_spot.PortSpot.{PortSpot};
-ghost use Rattle.np_conns.specs.declared.proto.Proto.TheVariants.{Tcp};
 ghost use Rattle.np_model.specs.declared.service.PortName.TheVariants.{Number};
 ghost use Rattle.np_routes.specs.Prelude.{at_pod, has_port, has_target, is_named_in, is_routed, target_leads};
 ghost use Rattle.np_rules.specs.Prelude.{pod_at, pod_end};
@@ -33,7 +32,7 @@ pub(crate) fn routed_set(
         return ConnSet::nothing(alloc);
     };
     let numbers = numbers_at(alloc, own, pod)?;
-    tcp_set(alloc, &numbers)
+    ConnSet::of_ports(alloc, Proto::Tcp, numbers)
 }
 
 // The numbers of the TCP ports of a pod to which services lead, each once.
@@ -79,23 +78,4 @@ fn add_named(targets: &mut PortSet<'_>, ports: &[NamedPort]) -> Result<(), NoMem
         }
     }
     Ok(())
-}
-
-// The set of these TCP ports. The sets of both halves are joined, so that n ports take time n log n.
-fn tcp_set(alloc: Global, ports: &[PortNum]) -> Result<ConnSet, NoMemory>
-    ensures members { IfOk result (λ made. (spot : PortSpot) → has_spot made spot
-        ≡ (same_proto spot.proto Tcp && has_target ports.now spot.port)) }
-    ensures well { IfOk result IsConns }
-{
-    match ports {
-        [] => ConnSet::nothing(alloc),
-        [port] => ConnSet::of(alloc, Proto::Tcp, *port, *port),
-        _ => {
-            let (front, back) = ports.split_at(ports.len() / 2);
-            let first = tcp_set(alloc, front)?;
-            let second = tcp_set(alloc, back)?;
-            let joined = first.join(&second)?;
-            Ok(joined)
-        }
-    }
 }
