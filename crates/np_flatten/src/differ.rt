@@ -13,7 +13,7 @@ use crate::passing::Passing;
 use np_base::{Cells, NoMemory, Point, Range};
 use np_conns::ConnSet;
 use np_model::Direction;
-use np_table::{AddressRow, AddressSpan, address_rows};
+use np_table::{AddressRow, AddressSpan};
 
 /// Whether two workloads differ in what passes between them and a third, within and between them, or at some address in a
 /// direction. At most four sets are held at a time.
@@ -137,17 +137,18 @@ fn are_same(one: &ConnSet, other: &ConnSet) -> bool
 
 // Whether they differ in what passes at some address in a direction.
 fn differ_towards(
-    passing: &Passing<'_>,
+    passing: &mut Passing<'_>,
     a: u32,
     b: u32,
     direction: Direction,
 ) -> Result<bool, NoMemory>
-    requires a { IsWorkload passing.now a }
-    requires b { IsWorkload passing.now b }
-    ensures { IfOk result (λ answer. answer ≡ spec.differ_towards passing.now a b direction) }
+    requires a { IsWorkload passing.old a }
+    requires b { IsWorkload passing.old b }
+    ensures answer { IfOk result (λ answer. answer ≡ spec.differ_towards passing.old a b direction) }
+    ensures same { passing.new ≡ passing.old }
 {
-    let rows_of_a = address_rows(passing.alloc(), passing.folded(), a, direction)?;
-    let rows_of_b = address_rows(passing.alloc(), passing.folded(), b, direction)?;
+    let rows_of_a = passing.with_addresses(a, direction)?;
+    let rows_of_b = passing.with_addresses(b, direction)?;
     Ok(!are_same_rows(rows_of_a.items(), rows_of_b.items()))
 }
 
