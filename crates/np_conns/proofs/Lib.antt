@@ -1,4 +1,5 @@
 pub mod ConnLemmas
+mod MeetLemmas
 pub mod OneText
 pub mod PrintedForms
 pub mod ReadLemmas

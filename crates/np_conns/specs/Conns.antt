@@ -1,5 +1,5 @@
 -- Connection sets: for each protocol the ascending ranges of its ports.
-use Rattle.std.specs.Prelude.{ℕ, ◌≤◌, List, Bool, true, false, ◌&&◌, nat_le}
+use Rattle.std.specs.Prelude.{ℕ, ◌≤◌, ◌<◌, List, length, Bool, true, false, ◌&&◌, nat_le}
 use Rattle.np_base.specs.Ranges.{holds, IsAscending}
 use Rattle.np_conns.specs.Types.{PortSpot, Proto, Range, Sctp, Tcp, Udp}
 
@@ -39,6 +39,10 @@ pub record IsConns (conns : Conns) : Type 0 where
   pub tcp : AscendsInPorts conns.tcp
   pub udp : AscendsInPorts conns.udp
   pub sctp : AscendsInPorts conns.sctp
+
+-- some protocol has more than two ranges
+abbrev pub IsLarge : Conns → Type 0
+IsLarge conns = (proto : Proto) × (2 < length (ranges_of conns proto))
 
 -- a range of ports that is not empty
 pub record IsRun (run : Range ℕ) : Type 0 where

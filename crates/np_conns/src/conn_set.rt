@@ -7,40 +7,49 @@ ghost use Rattle.np_conns.specs.ConnsText.{spans_of};
 ghost use Rattle.np_conns.specs.declared.port_spot.PortSpot.{PortSpot};
 ghost use Rattle.np_conns.specs.declared.proto.Proto.{Proto};
 
+use crate::port_sets::PortSets;
 use crate::port_spot::PortSpot;
 use crate::proto::Proto;
 use np_base::{Cells, NoMemory, PortNum, Range};
 use np_sets::IntervalSet;
 use std::alloc::Global;
 use std::marker::Model;
+use std::rc::Rc;
 
 /// A set of spots: for each protocol a set of ports. Contracts see it as the ascending ranges of each protocol's
 /// ports, between which at least one port is missing, so sets of the same spots are equal values. A set with at most
-/// two ranges of each protocol takes no memory.
+/// two ranges of each protocol takes no memory. One of more is held once for all copies of it, so that the same thousands of
+/// ports at each of many addresses are one set.
 #[derive(Debug)]
 pub struct ConnSet {
-    tcp: IntervalSet<PortNum>,
-    udp: IntervalSet<PortNum>,
-    sctp: IntervalSet<PortNum>,
+    alloc: Global,
+    // The ports, where these are few ranges.
+    few: PortSets,
+    // The ports, where they are more.
+    many: Option<Rc<PortSets>>,
 }
 
 // Written out, so that letting a set go is one call.
 impl Drop for ConnSet {
     fn drop(self) {
         let ConnSet {
-            tcp: _tcp,
-            udp: _udp,
-            sctp: _sctp,
+            alloc: _alloc,
+            few: _few,
+            many: _many,
         } = self;
     }
 }
 
 impl Model for ConnSet {
-    ghost use Rattle.np_conns.specs.Conns.{Conns};
+    ghost use Rattle.std.specs.Prelude.{IfSome, unwrap_or};
+    ghost use Rattle.std.specs.Option.{option_map};
+    ghost use Rattle.np_conns.specs.Conns.{Conns, IsLarge};
 
     ghost Value = { Conns };
 
-    ghost view = { λ set. record { tcp = set.tcp; udp = set.udp; sctp = set.sctp } };
+    ghost view = { λ set. unwrap_or (option_map (λ held. held.value) set.many) set.few };
+
+    ghost invariant = { λ set. IfSome set.many (λ held. IsLarge held.value) };
 }
 
 impl ConnSet {
@@ -53,7 +62,7 @@ impl ConnSet {
         ensures well { IfOk result IsConns }
         ensures succeeds { IsOk result }
     {
-        ConnSet::of_set(alloc, proto, IntervalSet::of_range(alloc, lo, hi)?)
+        Ok(ConnSet::of_few(alloc, PortSets::of(alloc, proto, lo, hi)?))
     }
 
     /// The set of some ports of one protocol, in whatever order they stand. It takes time n log n.
@@ -63,10 +72,11 @@ impl ConnSet {
             ≡ (same_proto spot.proto proto && list_any (λ port. port == spot.port) ports.items)) }
         ensures well { IfOk result IsConns }
     {
-        ConnSet::of_set(alloc, proto, IntervalSet::of_points(alloc, ports)?)
+        let made = PortSets::of_ports(alloc, proto, ports)?;
+        ConnSet::held(alloc, made)
     }
 
-    // The set of some ports of one protocol. It takes no memory.
+    // The set of some ports of one protocol.
     pub(crate) fn of_set(
         alloc: Global,
         proto: Proto,
@@ -77,34 +87,53 @@ impl ConnSet {
             has_spot made spot
             ≡ (same_proto spot.proto proto && holds (λ port. port) ports spot.port)) }
         ensures well { IfOk result IsConns }
-        ensures succeeds { IsOk result }
     {
-        let first = IntervalSet::nothing(alloc)?;
-        let second = IntervalSet::nothing(alloc)?;
-        Ok(match proto {
-            Proto::Tcp => ConnSet {
-                tcp: ports,
-                udp: first,
-                sctp: second,
-            },
-            Proto::Udp => ConnSet {
-                tcp: first,
-                udp: ports,
-                sctp: second,
-            },
-            Proto::Sctp => ConnSet {
-                tcp: first,
-                udp: second,
-                sctp: ports,
-            },
+        let made = PortSets::of_set(alloc, proto, ports)?;
+        ConnSet::held(alloc, made)
+    }
+
+    // These ports, which are few ranges. It takes no memory.
+    fn of_few(alloc: Global, few: PortSets) -> ConnSet
+        ensures { result ≡ few }
+    {
+        ConnSet {
+            alloc,
+            few,
+            many: None,
+        }
+    }
+
+    // These ports, held once where they are many ranges.
+    fn held(alloc: Global, ports: PortSets) -> Result<ConnSet, NoMemory>
+        ensures { IfOk result (λ made. made ≡ ports) }
+    {
+        if ports.is_small() {
+            return Ok(ConnSet::of_few(alloc, ports));
+        }
+        let few = PortSets::nothing(alloc)?;
+        let many = Rc::new(alloc, ports)?;
+        Ok(ConnSet {
+            alloc,
+            few,
+            many: Some(many),
         })
+    }
+
+    // The ports, lent.
+    fn ports(&self) -> &PortSets
+        ensures { result.now ≡ self.now }
+    {
+        match &self.many {
+            Some(held) => held,
+            None => &self.few,
+        }
     }
 
     /// Whether the spot is in the set.
     pub fn has(&self, spot: PortSpot) -> bool
         ensures { result ≡ has_spot self.now spot }
     {
-        self.ports(spot.proto).has(spot.port)
+        self.ports().has(spot)
     }
 
     /// The maximal runs of one protocol's ports, in ascending order.
@@ -113,18 +142,7 @@ impl ConnSet {
         ensures runs { result.now ≡ spans_of (has_spot self.now) proto }
         ensures ascending { AscendsInPorts result.now }
     {
-        self.ports(proto).ranges()
-    }
-
-    // The ports of one protocol.
-    fn ports(&self, proto: Proto) -> &IntervalSet<PortNum>
-        ensures { result.now ≡ ranges_of self.now proto }
-    {
-        match proto {
-            Proto::Tcp => &self.tcp,
-            Proto::Udp => &self.udp,
-            Proto::Sctp => &self.sctp,
-        }
+        self.ports().spans(proto)
     }
 }
 
@@ -145,11 +163,7 @@ impl Cells for ConnSet {
         ensures well { IfOk result IsConns }
         ensures succeeds { IsOk result }
     {
-        Ok(ConnSet {
-            tcp: IntervalSet::nothing(alloc)?,
-            udp: IntervalSet::nothing(alloc)?,
-            sctp: IntervalSet::nothing(alloc)?,
-        })
+        Ok(ConnSet::of_few(alloc, PortSets::nothing(alloc)?))
     }
 
     // It takes no memory.
@@ -158,64 +172,76 @@ impl Cells for ConnSet {
         ensures well { IfOk result IsConns }
         ensures succeeds { IsOk result }
     {
-        Ok(ConnSet {
-            tcp: IntervalSet::everything(alloc)?,
-            udp: IntervalSet::everything(alloc)?,
-            sctp: IntervalSet::everything(alloc)?,
-        })
+        Ok(ConnSet::of_few(alloc, PortSets::everything(alloc)?))
     }
 
+    // A set that is joined with nothing is held no second time.
     fn join(&self, other: &ConnSet) -> Result<ConnSet, NoMemory> {
-        Ok(ConnSet {
-            tcp: self.tcp.join(&other.tcp)?,
-            udp: self.udp.join(&other.udp)?,
-            sctp: self.sctp.join(&other.sctp)?,
-        })
+        if other.is_empty() {
+            return self.copy();
+        }
+        if self.is_empty() {
+            return other.copy();
+        }
+        let made = self.ports().join(other.ports())?;
+        ConnSet::held(self.alloc, made)
     }
 
+    // Nor is one of which everything is taken.
     fn meet(&self, other: &ConnSet) -> Result<ConnSet, NoMemory> {
-        Ok(ConnSet {
-            tcp: self.tcp.meet(&other.tcp)?,
-            udp: self.udp.meet(&other.udp)?,
-            sctp: self.sctp.meet(&other.sctp)?,
-        })
+        let left = self.ports();
+        let right = other.ports();
+        let has_left = right.is_everything();
+        let has_right = left.is_everything();
+        if has_left {
+            return self.copy();
+        }
+        if has_right {
+            return other.copy();
+        }
+        let made = left.meet(right)?;
+        ConnSet::held(self.alloc, made)
     }
 
     fn minus(&self, other: &ConnSet) -> Result<ConnSet, NoMemory> {
-        Ok(ConnSet {
-            tcp: self.tcp.minus(&other.tcp)?,
-            udp: self.udp.minus(&other.udp)?,
-            sctp: self.sctp.minus(&other.sctp)?,
-        })
+        if other.is_empty() {
+            return self.copy();
+        }
+        let made = self.ports().minus(other.ports())?;
+        ConnSet::held(self.alloc, made)
     }
 
-    // It takes no memory where each protocol has at most two ranges.
+    // It takes no memory.
     fn copy(&self) -> Result<ConnSet, NoMemory>
         ensures equal { IfOk result (λ made. made ≡ self.now) }
         ensures well { IfOk result IsConns }
         ensures succeeds { ((proto : Proto) → length (ranges_of self.now proto) ≤ 2) → IsOk result }
     {
-        Ok(ConnSet {
-            tcp: self.tcp.copy()?,
-            udp: self.udp.copy()?,
-            sctp: self.sctp.copy()?,
-        })
+        match &self.many {
+            Some(held) => {
+                // Ports that tell whether there are none tell that they are well formed.
+                let _empty = held.is_empty();
+                let few = PortSets::nothing(self.alloc)?;
+                let many = held.clone()?;
+                Ok(ConnSet {
+                    alloc: self.alloc,
+                    few,
+                    many: Some(many),
+                })
+            }
+            None => {
+                let few = self.few.copy()?;
+                Ok(ConnSet::of_few(self.alloc, few))
+            }
+        }
     }
 
-    // Each protocol is asked, also where the answer is known: each call tells that its ports are
-    // well formed.
     fn same(&self, other: &ConnSet) -> bool {
-        let tcp = self.tcp.same(&other.tcp);
-        let udp = self.udp.same(&other.udp);
-        let sctp = self.sctp.same(&other.sctp);
-        tcp & udp & sctp
+        self.ports().same(other.ports())
     }
 
     fn is_empty(&self) -> bool {
-        let tcp = self.tcp.is_empty();
-        let udp = self.udp.is_empty();
-        let sctp = self.sctp.is_empty();
-        tcp & udp & sctp
+        self.ports().is_empty()
     }
 
     ghost members_in_space = { has_spot-is_spot };

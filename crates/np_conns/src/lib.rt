@@ -4,6 +4,7 @@
 mod conn_set;
 mod conns_fault;
 mod laws;
+mod port_sets;
 mod port_spot;
 mod print;
 mod proto;

@@ -1,7 +1,5 @@
 //! A set of points, kept as ranges.
 ghost use Rattle.std.specs.Prelude.{ℕ, ◌≡◌, ◌≤◌, ◌==◌, [], ◌∷◌, length, false, IfOk, IsOk};
-ghost use Rattle.std.specs.Bool.{OnTrue};
-ghost use Rattle.np_sets.specs.Space.{is_between};
 ghost use Rattle.std.specs.List.{list_any};
 ghost use Rattle.np_base.specs.Ranges.{is_within, holds, IsAscending};
 
@@ -17,42 +15,32 @@ use crate::same::same_ranges;
 use np_base::{Cells, NoMemory, Point, Range};
 use std::alloc::Global;
 use std::marker::Model;
-use std::rc::Rc;
 
 /// A set of points, kept as the fewest ranges that have them. Contracts see it as the list of those ranges.
 /// They ascend, none is empty, and between two neighbours at least one point is missing, so sets of the same
-/// points are equal values. A set of at most two ranges takes no memory. One of more is held once for all copies of it, so that
-/// the same thousands of ports at each of many addresses are one list.
+/// points are equal values. A set of at most two ranges takes no memory.
 #[derive(Debug)]
 pub struct IntervalSet<P: Point> {
-    // The ranges, where there are at most two.
-    few: Ranges<P>,
-    // The ranges, where there are more.
-    many: Option<Rc<Ranges<P>>>,
+    ranges: Ranges<P>,
 }
 
 // Written out: where a set is let go this is called, and not each function that lets one go has to tell whether its ranges lie in it.
 impl<P: Point> Drop for IntervalSet<P> {
     fn drop(self) {
-        let IntervalSet {
-            few: _few,
-            many: _many,
-        } = self;
+        let IntervalSet { ranges: _ranges } = self;
     }
 }
 
 impl<P: Point> Model for IntervalSet<P> {
-    ghost use Rattle.std.specs.Prelude.{◌<◌, List, IfSome, length, unwrap_or};
-    ghost use Rattle.std.specs.Option.{option_map};
+    ghost use Rattle.std.specs.Prelude.{List};
     ghost use Rattle.np_base.specs.Ranges.{IsAscending};
     ghost use Rattle.np_base.specs.declared.range.Range.{Range};
 
     ghost Value = { List (Range P) };
 
-    ghost view = { λ s. unwrap_or (option_map (λ held. held.value.items) s.many) s.few.items };
+    ghost view = { λ s. s.ranges.items };
 
-    ghost invariant = { λ s. IsAscending P.number_of P.LOW P.HIGH (unwrap_or (option_map (λ held. held.value.items) s.many) s.few.items)
-        × IfSome s.many (λ held. 2 < length held.value.items) };
+    ghost invariant = { λ s. IsAscending P.number_of P.LOW P.HIGH s.ranges.items };
 }
 
 impl<P: Point> IntervalSet<P> {
@@ -66,8 +54,8 @@ impl<P: Point> IntervalSet<P> {
         ensures ascending { IfOk result (λ made. IsAscending P.number_of P.LOW P.HIGH made) }
         ensures succeeds { IsOk result }
     {
-        let few = one_range(alloc, Range { lo, hi });
-        Ok(IntervalSet { few, many: None })
+        let ranges = one_range(alloc, Range { lo, hi });
+        Ok(IntervalSet { ranges })
     }
 
     /// The set of some points, in whatever order they stand. It takes time n log n.
@@ -80,14 +68,14 @@ impl<P: Point> IntervalSet<P> {
         let mut points = points;
         points.sort_unstable_by_key(|point| point.number());
         let ranges = point_ranges(alloc, &points)?;
-        IntervalSet::from_ranges(alloc, ranges)
+        Ok(IntervalSet { ranges })
     }
 
     /// Whether the point is in the set.
     pub fn has(&self, p: P) -> bool
         ensures { result ≡ holds P.number_of self.now (P.number_of p) }
     {
-        has_number(self.ranges(), p.number())
+        has_number(self.ranges.as_slice(), p.number())
     }
 
     /// The ranges, ends included, in ascending order.
@@ -95,35 +83,20 @@ impl<P: Point> IntervalSet<P> {
         ensures value { result.now ≡ self.now }
         ensures ascending { IsAscending P.number_of P.LOW P.HIGH self.now }
     {
-        match &self.many {
-            Some(held) => held.as_slice(),
-            None => self.few.as_slice(),
-        }
+        self.ranges.as_slice()
     }
 
     // Where its memory comes from, and that of sets made of it.
     fn allocator(&self) -> Global {
-        *self.few.allocator()
+        *self.ranges.allocator()
     }
 
     // The set of ranges that ascend.
-    fn from_ranges(alloc: Global, ranges: Ranges<P>) -> Result<IntervalSet<P>, NoMemory>
+    fn from_ranges(ranges: Ranges<P>) -> IntervalSet<P>
         requires { IsAscending P.number_of P.LOW P.HIGH ranges.items }
-        ensures value { IfOk result (λ made. made ≡ ranges.items) }
-        ensures ascending { IfOk result (IsAscending P.number_of P.LOW P.HIGH) }
+        ensures { result ≡ ranges.items }
     {
-        if ranges.len() <= 2 {
-            return Ok(IntervalSet {
-                few: ranges,
-                many: None,
-            });
-        }
-        let mut many = ranges;
-        many.shrink_to_fit();
-        Ok(IntervalSet {
-            few: Ranges::new(alloc),
-            many: Some(Rc::new(alloc, many)?),
-        })
+        IntervalSet { ranges }
     }
 }
 
@@ -139,16 +112,6 @@ fn one_range<P: Point>(alloc: Global, range: Range<P>) -> Ranges<P>
     let mut ranges = Ranges::new(alloc);
     ranges.push_reserved(range);
     ranges
-}
-
-// Whether the ranges have all points.
-fn are_everything<P: Point>(ranges: &[Range<P>]) -> bool
-    ensures { OnTrue result ((n : ℕ) → holds P.number_of ranges.now n ≡ is_between P.LOW P.HIGH n) }
-{
-    match ranges {
-        [one] => one.lo.number() == P::LOW && one.hi.number() == P::HIGH,
-        _ => false,
-    }
 }
 
 impl<P: Point> Cells for IntervalSet<P> {
@@ -170,10 +133,7 @@ impl<P: Point> Cells for IntervalSet<P> {
         ensures well { IfOk result (IsAscending P.number_of P.LOW P.HIGH) }
         ensures succeeds { IsOk result }
     {
-        Ok(IntervalSet {
-            few: Ranges::new(alloc),
-            many: None,
-        })
+        Ok(IntervalSet::from_ranges(Ranges::new(alloc)))
     }
 
     // It takes no memory.
@@ -183,60 +143,33 @@ impl<P: Point> Cells for IntervalSet<P> {
         ensures well { IfOk result (IsAscending P.number_of P.LOW P.HIGH) }
         ensures succeeds { IsOk result }
     {
-        let few = one_range(alloc, range_between(P::LOW, P::HIGH));
-        Ok(IntervalSet { few, many: None })
+        let ranges = one_range(alloc, range_between(P::LOW, P::HIGH));
+        Ok(IntervalSet::from_ranges(ranges))
     }
 
-    // A set that is joined with nothing is held no second time.
     fn join(&self, other: &IntervalSet<P>) -> Result<IntervalSet<P>, NoMemory> {
-        if other.is_empty() {
-            return self.copy();
-        }
-        if self.is_empty() {
-            return other.copy();
-        }
         let ranges = join_ranges(self.allocator(), self.ranges(), other.ranges())?;
-        IntervalSet::from_ranges(self.allocator(), ranges)
+        Ok(IntervalSet::from_ranges(ranges))
     }
 
-    // Nor is one of which everything is taken.
     fn meet(&self, other: &IntervalSet<P>) -> Result<IntervalSet<P>, NoMemory> {
-        let left = self.ranges();
-        let right = other.ranges();
-        if are_everything(right) {
-            return self.copy();
-        }
-        if are_everything(left) {
-            return other.copy();
-        }
-        let ranges = meet_ranges(self.allocator(), left, right)?;
-        IntervalSet::from_ranges(self.allocator(), ranges)
+        let ranges = meet_ranges(self.allocator(), self.ranges(), other.ranges())?;
+        Ok(IntervalSet::from_ranges(ranges))
     }
 
     fn minus(&self, other: &IntervalSet<P>) -> Result<IntervalSet<P>, NoMemory> {
-        if other.is_empty() {
-            return self.copy();
-        }
         let ranges = subtract_ranges(self.allocator(), self.ranges(), other.ranges())?;
-        IntervalSet::from_ranges(self.allocator(), ranges)
+        Ok(IntervalSet::from_ranges(ranges))
     }
 
-    // It takes no memory.
+    // It takes no memory where the set has at most two ranges.
     fn copy(&self) -> Result<IntervalSet<P>, NoMemory>
         ensures equal { IfOk result (λ made. made ≡ self.now) }
         ensures well { IfOk result (IsAscending P.number_of P.LOW P.HIGH) }
         ensures succeeds { length self.now ≤ 2 → IsOk result }
     {
-        match &self.many {
-            Some(held) => Ok(IntervalSet {
-                few: Ranges::new(self.allocator()),
-                many: Some(held.clone()?),
-            }),
-            None => Ok(IntervalSet {
-                few: Ranges::from_slice(self.allocator(), self.few.as_slice())?,
-                many: None,
-            }),
-        }
+        let ranges = Ranges::from_slice(self.allocator(), self.ranges())?;
+        Ok(IntervalSet::from_ranges(ranges))
     }
 
     fn same(&self, other: &IntervalSet<P>) -> bool {

@@ -1,7 +1,5 @@
-use Rattle.std.proofs.Common.{sym, rules, ◌∙◌, ap, ◌≡◌}
+use Rattle.std.proofs.Common.{sym, rules}
 use Rattle.std.proofs.lemmas.List.Sorted.{IsNonDecreasingBy-from_sort_by_key, list_any-IsPermutation}
-use Rattle.std.proofs.lemmas.Result.{IfOk-weaker}
-use Rattle.np_base.specs.Ranges.{holds}
 use Rattle.np_sets.proofs.interval_set.IntervalSet.of_points.Goals as goal
 
 pub point_ranges-requires : goal.point_ranges-requires
@@ -11,7 +9,5 @@ point_ranges-requires g c = (
 )
 
 pub returns-clause-members : goal.returns-clause-members
-returns-clause-members g c = IfOk-weaker c.from_ranges.result _ _
-    (λ made is p. ap (λ ranges. holds g.P.Point.number_of ranges (g.P.Point.number_of p)) is
-    ∙ rw (c.in_ok-ranges.ensures.members (g.P.Point.number_of p), c.deref.ensures.value) (sym (list_any-IsPermutation _ _ _ c.sort_unstable_by_key.ensures.permutation)))
-    c.from_ranges.ensures.value
+returns-clause-members g c =
+    λ p. rw (c.in_ok-ranges.ensures.members (g.P.Point.number_of p), c.deref.ensures.value) (sym (list_any-IsPermutation _ _ _ c.sort_unstable_by_key.ensures.permutation))

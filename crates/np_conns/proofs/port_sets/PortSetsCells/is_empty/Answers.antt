@@ -1,5 +1,5 @@
 use Rattle.np_conns.proofs.ConnLemmas.{empty_by_protocols}
-use Rattle.np_conns.proofs.conn_set.ConnSetCells.is_empty.Goals as goal
+use Rattle.np_conns.proofs.port_sets.PortSetsCells.is_empty.Goals as goal
 
 pub returns-clause-answer : goal.returns-clause-answer
 returns-clause-answer c =

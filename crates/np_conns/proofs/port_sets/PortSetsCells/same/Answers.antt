@@ -1,5 +1,5 @@
 use Rattle.np_conns.proofs.ConnLemmas.{same_by_protocols}
-use Rattle.np_conns.proofs.conn_set.ConnSetCells.same.Goals as goal
+use Rattle.np_conns.proofs.port_sets.PortSetsCells.same.Goals as goal
 
 pub returns-clause-answer : goal.returns-clause-answer
 returns-clause-answer c =
