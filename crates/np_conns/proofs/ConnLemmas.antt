@@ -1,4 +1,4 @@
--- The spans and the text of connection sets. For `ConnSet::spans`, `ConnSetCells::is_empty` and 3 more.
+-- The spans and the text of connection sets. For `PortSets::spans`, `PortSetsCells::is_empty` and 3 more.
 use Rattle.std.proofs.Common.{◌≡◌, ℕ, List, Bool, true, false, ◌&&◌, ◌==◌, refl, not, ◌≤◌, MatchBool, nat_le, sym, ◌∙◌, ap, subst}
 use Rattle.std.proofs.lemmas.Bool.{and_from, and_parts, le-leb, leb-true}
 use Rattle.std.proofs.lemmas.Bool.Decides.{Decides-and, Decides-eqb}
