@@ -50,6 +50,8 @@ END = "<!-- The tables end here. -->"
 LONG_ANSWER = "the answer is as long as that"
 HELD_ANSWER = "the answer is as long as that, and the rows of a workload are held until all of them are known"
 HELD_POLICY = "the answer is as long as that, and each policy is held whole"
+PATTERNS = "the rules are gone through for each pattern of the labels"
+NAMED_GROUPS = "each of the policies that are printed names all workloads, and the rules are gone through for each of these once"
 KNOWN = {(name, command): why for name, commands, why in (
     ("longNames", "list", LONG_ANSWER),
     ("samePorts", "list", LONG_ANSWER),
@@ -59,7 +61,9 @@ KNOWN = {(name, command): why for name, commands, why in (
     ("blocksAndPorts", "flatten", HELD_POLICY),
     ("pairPorts", "flatten", HELD_POLICY),
     ("groupKeys", "flatten", HELD_POLICY),
+    ("podRules", "flatten", NAMED_GROUPS),
     ("exposureKeyPorts", "exposure", HELD_ANSWER),
+    ("exposureNamespaces", "exposure", PATTERNS),
     ("ignored", "list", "the JSON is held whole, and an object of one member takes more than 500 bytes of memory"),
     ("mostBlocks", "list explain exposure evaluate unused check flatten",
      "the JSON and the policies are held whole, at 50 bytes of memory for each byte"),
