@@ -9,7 +9,7 @@ use np_base::NoMemory;
 use np_fold::Folded;
 use np_kinds::{KindReach, Sides, first_side};
 use np_model::Direction;
-use np_table::{address_rows_by_kind, pod_for_addresses, set_by_kinds};
+use np_table::{KnownAddresses, SharedRows, address_rows_by_kind, pod_for_addresses, set_by_kinds};
 use std::alloc::Global;
 use std::process::Abort;
 
@@ -43,6 +43,8 @@ pub fn expect_kinds(rt: &impl Abort, alloc: Global, folded: &Folded)
     expect_right(rt, pod, "the pod for the rows of addresses");
     let ranges = are_ranges_right_by_kind(alloc, &mut sides);
     expect_right(rt, ranges, "the rows of addresses, by kinds");
+    let known = are_known_ranges_right(alloc, &mut sides);
+    expect_right(rt, known, "the rows of addresses that are kept");
 }
 
 // The pod `c` stands for the one that sends, and `db-0`, the first of the list, for the one that receives.
@@ -76,7 +78,19 @@ fn is_address_pod_right(sides: &mut Sides<'_>) -> Result<bool, NoMemory>
 
 fn are_ranges_right_by_kind(alloc: Global, sides: &mut Sides<'_>) -> Result<bool, NoMemory>
     requires { number_of_workloads sides.old.lists ≡ 2 }
+    ensures { sides.new.lists ≡ sides.old.lists }
 {
-    let rows = address_rows_by_kind(alloc, sides, 0, Direction::Egress)?;
+    let found = address_rows_by_kind(alloc, sides, 0, Direction::Egress)?;
+    let rows = SharedRows::of(alloc, found)?.share()?;
     are_ranges_right(alloc, rows.items())
+}
+
+// They are found, and then had from what is kept.
+fn are_known_ranges_right(alloc: Global, sides: &mut Sides<'_>) -> Result<bool, NoMemory>
+    requires { number_of_workloads sides.old.lists ≡ 2 }
+{
+    let mut known = KnownAddresses::new(alloc, sides.folded());
+    let found = known.rows_of(sides, 0, Direction::Egress)?;
+    let kept = known.rows_of(sides, 0, Direction::Egress)?;
+    Ok(are_ranges_right(alloc, found.items())? && are_ranges_right(alloc, kept.items())?)
 }
