@@ -6,9 +6,9 @@ tools/lemma_heads.py --check    says nothing where each head says it; else names
 
 A lemma file is a file of a crate's proofs/ that answers no goals of one function itself. Its head, the comment before its first line of
 proof, ends with a sentence `For A, B and C.`: the functions of its crate whose proofs import it, or, where none does, the lemma files that
-import it, and `crates above` where other crates do, whichever. Of more than three it names two, and says how many more there are. A name
-may be the end of a longer one, they may come in any order, and `crates above` may be missing beside names: so no file has to change, and
-nothing has to be proved again, because one far above it does. What says it is left as it is.
+import it, and `crates above` where other crates do, whichever. Of more than three it names two, and says how many more there are. They may
+come in any order, and `crates above` may be missing beside names: so no file has to change, and nothing has to be proved again, because one
+far above it does. A head that says it is left as it is.
 """
 from __future__ import annotations
 
@@ -76,11 +76,6 @@ def sentence(words: List[str]) -> str:
     return "For " + " and ".join([*([", ".join(words[:-1])] if words[1:] else []), words[-1]]) + "."
 
 
-def is_name_of(name: str, word: str) -> bool:
-    """Whether it is the word, or the end of the whole name that it is."""
-    return name == word or name.startswith("`") and word.endswith(f"::{name[1:]}")
-
-
 def tells(said: str, words: List[str]) -> bool:
     """Whether a sentence names these, each once, or two of them and how many more there are."""
     names = re.findall(ONE, said[len("For "):].replace(" and ", ", "))
@@ -88,10 +83,9 @@ def tells(said: str, words: List[str]) -> bool:
     named = [name for name in names if not re.fullmatch(r"\d+|more", name)]
     left = list(words)
     for name in named:
-        found = next((word for word in left if is_name_of(name, word)), None)
-        if found is None:
+        if name not in left:
             return False
-        left.remove(found)
+        left.remove(name)
     without = [word for word in left if word != "crates above" or not named]
     return len(left if more else without) == (int(more[1]) if more else 0)
 
