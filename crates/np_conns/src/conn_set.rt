@@ -119,6 +119,17 @@ impl ConnSet {
         })
     }
 
+    /// The same set. Where it is that of before, and takes memory, both are held once. So the thousands of ports that a name stands for
+    /// at a pod are held once for all rules in a row that have the name.
+    pub fn held_once(self, before: Option<&ConnSet>) -> Result<ConnSet, NoMemory>
+        ensures { IfOk result (λ made. made ≡ self) }
+    {
+        match before {
+            Some(before) if self.many.is_some() && before.same(&self) => before.copy(),
+            _ => Ok(self),
+        }
+    }
+
     // The ports, lent.
     fn ports(&self) -> &PortSets
         ensures { result.now ≡ self.now }

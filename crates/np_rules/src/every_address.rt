@@ -59,6 +59,17 @@ impl FarEnds<AddrConns> for EveryAddress<'_> {
         let conns = self.entries_set(alloc, rule.ports.items())?;
         at_addresses(alloc, &addresses, &conns)
     }
+
+    fn held_once(
+        &self,
+        before: Option<&AddrConns>,
+        set: AddrConns,
+    ) -> Result<AddrConns, NoMemory> {
+        match before {
+            Some(before) if before.same(&set) => before.copy(),
+            _ => Ok(set),
+        }
+    }
 }
 
 impl EveryAddress<'_> {

@@ -1,5 +1,5 @@
 //! The far ends that a layer is made for.
-ghost use Rattle.std.specs.Prelude.{IfOk};
+ghost use Rattle.std.specs.Prelude.{◌≡◌, IfOk};
 ghost use Rattle.np_rules.specs.model.Ends.{Contact};
 ghost use Rattle.np_rules.specs.Layers.{IsSetOf};
 ghost use Rattle.np_rules.specs.model.Rules.{admin_rule_matches, net_rule_matches};
@@ -23,4 +23,8 @@ pub(crate) trait FarEnds<S: Cells> {
     fn net_set(&self, alloc: Global, namespace: &str, rule: &NetRule) -> Result<S, NoMemory>
         ensures { IfOk result (λ set.
             IsSetOf S.has S.in_space (contact_at self.now) set (net_rule_matches namespace.now rule.now)) };
+
+    /// The set of a rule. Where it is large and that of the rule before, both are held once.
+    fn held_once(&self, before: Option<&S>, set: S) -> Result<S, NoMemory>
+        ensures { IfOk result (λ made. made ≡ set) };
 }

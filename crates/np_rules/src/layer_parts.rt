@@ -21,7 +21,7 @@ pub(crate) fn admin_parts<S: Cells, F: FarEnds<S>>(
     let mut parts: Vec<AdminPart<S>> = Vec::new(alloc);
     for rule in rules {
         let found = far.admin_set(alloc, rule)?;
-        let set = held_once(parts.last().map(|part| &part.set), found)?;
+        let set = far.held_once(parts.last().map(|part| &part.set), found)?;
         parts.push(AdminPart {
             action: tier_action(rule.action),
             set,
@@ -54,21 +54,10 @@ pub(crate) fn net_sets<S: Cells, F: FarEnds<S>>(
     let mut sets = Vec::new(alloc);
     for rule in rules {
         let found = far.net_set(alloc, namespace, rule)?;
-        let set = held_once(sets.last(), found)?;
+        let set = far.held_once(sets.last(), found)?;
         sets.push(set)?;
     }
     Ok(Seq::from_vec(sets))
-}
-
-/// A set, or a copy of the last one where it is the same. So the thousands of ports that a name stands for at a pod are held once
-/// for all rules in a row that have the name.
-pub(crate) fn held_once<S: Cells>(last: Option<&S>, set: S) -> Result<S, NoMemory>
-    ensures { IfOk result (λ made. made ≡ set) }
-{
-    match last {
-        Some(last) if last.same(&set) => last.copy(),
-        _ => Ok(set),
-    }
 }
 
 /// The parts of the rules of the baseline.

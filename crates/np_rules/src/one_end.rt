@@ -38,4 +38,8 @@ impl FarEnds<ConnSet> for OneEnd<'_> {
             ConnSet::nothing(alloc)
         }
     }
+
+    fn held_once(&self, before: Option<&ConnSet>, set: ConnSet) -> Result<ConnSet, NoMemory> {
+        set.held_once(before)
+    }
 }

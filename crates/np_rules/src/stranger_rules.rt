@@ -9,7 +9,7 @@ ghost use Rattle.np_rules.specs.StrangerRules.{ArePermitted, HasPorts, IsNetOf, 
 ghost use Rattle.np_rules.specs.Views.{end_view};
 
 use crate::every_address::EveryAddress;
-use crate::layer_parts::{admin_parts, base_parts, held_once};
+use crate::layer_parts::{admin_parts, base_parts};
 use crate::near_ends::{between, view_at};
 use crate::peers::net_peers_match;
 use crate::pod_rules::PodRules;
@@ -167,7 +167,7 @@ fn rules_with_conns<'a>(
     let mut made: Vec<RuleConns<'a>> = Vec::new(alloc);
     for rule in rules {
         let found = ends.entries_set(alloc, rule.ports.items())?;
-        let conns = held_once(made.last().map(|kept| &kept.conns), found)?;
+        let conns = found.held_once(made.last().map(|rule| &rule.conns))?;
         made.push(RuleConns { rule, conns })?;
     }
     Ok(made)
