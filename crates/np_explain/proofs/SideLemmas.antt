@@ -9,7 +9,7 @@ use Rattle.np_base.proofs.Lists.{slice_get-some}
 use Rattle.np_base.proofs.Options.{some_is}
 use Rattle.np_explain.proofs.PlaceLemmas.{at_place}
 use Rattle.np_explain.specs.Prelude.{AdminPart, AdminPolicy, Decider, KeepsNames, Layer, LayerRules, NetPolicy, RuleName, admin_rules, base_rules, mark_decider, net_rules, pass_name, policy_name_at}
-use Rattle.np_rules.specs.Prelude.{NamesAdmin, NamesBase, NamesNet, Pairwise, PlacedAdminRule, PlacedBaseRule, PlacedNetRule, PodSide, admin_rule_name, base_rule_name, is_allow, isolates, isolating_names, near_pod, net_policy_name, net_rule_name, tier_action}
+use Rattle.np_rules.specs.Prelude.{NamesAdmin, NamesBase, NamesNet, Pairwise, PlacedAdminRule, PlacedBaseRule, PlacedNetRule, PodSide, admin_rule_name, base_rule_name, is_allow, isolates, isolating_names, near_pod, net_policy_name, net_rule_name}
 use Rattle.np_rules.specs.declared.decider.Decider.TheVariants as decider
 use Rattle.np_rules.specs.declared.rule_ids.RuleId.{RuleId}
 use Rattle.np_tiers.specs.declared.layer.BasePart.{BasePart}
@@ -79,7 +79,7 @@ module _ {S : Type 0} {side : PodSide} {layer : Layer S} {rules : LayerRules} (n
   base_within ids are there = rw are (omega (arith, length-pairwise NamesBase rules.base (base_rules side) names.base))
 
   pub actions_within : (parts : List (AdminPart S)) → parts ≡ layer.admin → place < length (admin_rules side) → place < length parts
-  actions_within parts are there = rw are (omega (arith, length-pairwise (λ part placed. part.action ≡ tier_action placed.rule.action) layer.admin (admin_rules side) names.says.admin))
+  actions_within parts are there = rw are (omega (arith, length-pairwise (λ part placed. part.action ≡ placed.rule.action) layer.admin (admin_rules side) names.says.admin))
 
   pub allows_within : (parts : List (BasePart S)) → parts ≡ layer.base → place < length (base_rules side) → place < length parts
   allows_within parts are there = rw are (omega (arith, length-pairwise (λ part placed. part.allow ≡ is_allow placed.rule.action) layer.base (base_rules side) names.says.base))
@@ -97,8 +97,8 @@ module _ {S : Type 0} {side : PodSide} {layer : Layer S} {rules : LayerRules} (n
   base_at ids d are placed is = rw are (related_at NamesBase rules.base (base_rules side) place d placed names.base is)
 
   pub action_at : (parts : List (AdminPart S)) (d : AdminPart S) → parts ≡ layer.admin → (placed : PlacedAdminRule) → slice_get (admin_rules side) place ≡ Some placed →
-      (get_or parts place d).action ≡ tier_action placed.rule.action
-  action_at parts d are placed is = rw are (related_at (λ part p. part.action ≡ tier_action p.rule.action) layer.admin (admin_rules side) place d placed names.says.admin is)
+      (get_or parts place d).action ≡ placed.rule.action
+  action_at parts d are placed is = rw are (related_at (λ part p. part.action ≡ p.rule.action) layer.admin (admin_rules side) place d placed names.says.admin is)
 
   pub allow_at : (parts : List (BasePart S)) (d : BasePart S) → parts ≡ layer.base → (placed : PlacedBaseRule) → slice_get (base_rules side) place ≡ Some placed →
       (get_or parts place d).allow ≡ is_allow placed.rule.action

@@ -8,12 +8,11 @@ use Rattle.np_conns.specs.Prelude.{Conns, has_spot, is_spot}
 use Rattle.np_explain.specs.Prelude.{Action, AdminPart, Decider, IsMarkOf, IsPassOf, Layer, Mark, PortSpot, RuleName, SaysActions, admin_rules, base_rules, mark_decider, net_rules, pass_name}
 use Rattle.np_model.specs.Prelude.{IsLawful}
 use Rattle.np_explain.proofs.RuleLemmas.{net_decider_is_first}
-use Rattle.np_model.specs.declared.admin_policy.Action.TheVariants as policy
+use Rattle.np_model.specs.declared.admin_policy.Action.TheVariants as acts
 use Rattle.np_rules.proofs.AdminTierLemmas.{decider_is_first}
-use Rattle.np_rules.specs.Prelude.{Contact, IsAdminPart, IsBasePart, IsLayer, IsSetOf, Pairwise, PlacedAdminRule, PlacedBaseRule, PlacedNetRule, PodSide, action_decides, admin_decides, admin_rule_matches, admin_rule_name, base_decider, base_decides, base_rule_name, decider, is_allow, is_isolated, isolating_names, lower_decider, matches_of, near_pod, net_decider, net_decides, net_rule_name, placed_net_matches, pod, tier_action}
+use Rattle.np_rules.specs.Prelude.{Contact, IsAdminPart, IsBasePart, IsLayer, IsSetOf, Pairwise, PlacedAdminRule, PlacedBaseRule, PlacedNetRule, PodSide, action_decides, admin_decides, admin_rule_matches, admin_rule_name, base_decider, base_decides, base_rule_name, decider, is_allow, is_isolated, isolating_names, lower_decider, matches_of, near_pod, net_decider, net_decides, net_rule_name, placed_net_matches, pod}
 use Rattle.np_rules.specs.declared.decider.Decider.TheVariants as decider
 use Rattle.np_tiers.specs.Prelude.{action_mark, admin_mark, base_mark, lower_mark, mark_of, net_mark}
-use Rattle.np_tiers.specs.declared.layer.Action.{Action as TierAction}
 use Rattle.np_tiers.proofs.Verdicts.{StandsAt, whole_stands, first_stands, rest_stands}
 
 -- ---- places and items
@@ -33,15 +32,15 @@ found {S} {X} at test all n (set ∷ sets) (x ∷ items) related stands =
     go false rest = rest
 
 -- the rule at the place of an admin part, and what the part says; and a rule with what it says
-abbrev seen : {S : Type 0} → List PlacedAdminRule → ℕ × AdminPart S → Option PlacedAdminRule × TierAction
+abbrev seen : {S : Type 0} → List PlacedAdminRule → ℕ × AdminPart S → Option PlacedAdminRule × Action
 seen all numbered = (slice_get all numbered.0, numbered.1.action)
 
-abbrev spoken : PlacedAdminRule → Option PlacedAdminRule × TierAction
-spoken placed = (Some placed, tier_action placed.rule.action)
+abbrev spoken : PlacedAdminRule → Option PlacedAdminRule × Action
+spoken placed = (Some placed, placed.rule.action)
 
 -- so it is for the admin parts, of which each says what its rule says
 admin_found : {S : Type 0} (at : S → Bool) (test : PlacedAdminRule → Bool) (all : List PlacedAdminRule) (n : ℕ) (parts : List (AdminPart S)) (items : List PlacedAdminRule) →
-    Pairwise (λ part placed. (part.action ≡ tier_action placed.rule.action) × (at part.set ≡ test placed)) parts items → StandsAt all n items →
+    Pairwise (λ part placed. (part.action ≡ placed.rule.action) × (at part.set ≡ test placed)) parts items → StandsAt all n items →
     option_map (seen all) (find (λ numbered. at numbered.1.set) (enumerate_from n parts)) ≡ option_map spoken (find test items)
 admin_found at test all n [] [] related stands = refl
 admin_found at test all n [] (placed ∷ items) related stands = absurd related
@@ -86,16 +85,16 @@ base_named side pass (Some place) (Some placed) there same =
 action_named : (side : PodSide) (place : ℕ) (placed : PlacedAdminRule) (action : Action) (lower : Option ℕ → Mark) (decides : Option RuleName → Decider) →
     slice_get (admin_rules side) place ≡ Some placed → placed.rule.action ≡ action →
     ((pass : Option ℕ) → IsPassOf side pass → (mark_decider side (lower pass) ≡ decides (pass_name side pass)) × IsMarkOf side (lower pass)) →
-    (mark_decider side (action_mark (tier_action action) place lower) ≡ action_decides action (admin_rule_name placed) decides) × IsMarkOf side (action_mark (tier_action action) place lower)
-action_named side place placed policy.Allow lower decides is says below =
+    (mark_decider side (action_mark action place lower) ≡ action_decides action (admin_rule_name placed) decides) × IsMarkOf side (action_mark action place lower)
+action_named side place placed acts.Allow lower decides is says below =
     let named : Option PlacedAdminRule → Decider = λ o. option_map_or (λ p. decider.Admin (admin_rule_name p) (is_allow p.rule.action)) o decider.NoSide in
     let allows : Action → Decider = λ a. decider.Admin (admin_rule_name placed) (is_allow a) in
     (ap named is ∙ ap allows says, slice_get_within (admin_rules side) place placed is)
-action_named side place placed policy.Deny lower decides is says below =
+action_named side place placed acts.Deny lower decides is says below =
     let named : Option PlacedAdminRule → Decider = λ o. option_map_or (λ p. decider.Admin (admin_rule_name p) (is_allow p.rule.action)) o decider.NoSide in
     let allows : Action → Decider = λ a. decider.Admin (admin_rule_name placed) (is_allow a) in
     (ap named is ∙ ap allows says, slice_get_within (admin_rules side) place placed is)
-action_named side place placed policy.Pass lower decides is says below =
+action_named side place placed acts.Pass lower decides is says below =
     let met : Option PlacedAdminRule → Decider = λ o. decides (option_map admin_rule_name o) in
     let passed = below (Some place) (slice_get_within (admin_rules side) place placed is) in
     (passed.0 ∙ ap met is, passed.1)
@@ -108,10 +107,10 @@ admin_named side None None lower below same lowers = lowers None tt
 admin_named side None (Some placed) lower below same lowers = none_is_some _ same
 admin_named side (Some numbered) None lower below same lowers = some_is_none _ same
 admin_named side (Some numbered) (Some placed) lower below same lowers =
-    let pair : (slice_get (admin_rules side) numbered.0, numbered.1.action) ≡ (Some placed, tier_action placed.rule.action) = some_is _ _ same in
-    let is : slice_get (admin_rules side) numbered.0 ≡ Some placed = ap (λ (p : Option PlacedAdminRule × TierAction). p.0) pair in
-    let says : numbered.1.action ≡ tier_action placed.rule.action = ap (λ (p : Option PlacedAdminRule × TierAction). p.1) pair in
-    subst (λ (action : TierAction). (mark_decider side (action_mark action numbered.0 lower) ≡ action_decides placed.rule.action (admin_rule_name placed) below) × IsMarkOf side
+    let pair : (slice_get (admin_rules side) numbered.0, numbered.1.action) ≡ (Some placed, placed.rule.action) = some_is _ _ same in
+    let is : slice_get (admin_rules side) numbered.0 ≡ Some placed = ap (λ (p : Option PlacedAdminRule × Action). p.0) pair in
+    let says : numbered.1.action ≡ placed.rule.action = ap (λ (p : Option PlacedAdminRule × Action). p.1) pair in
+    subst (λ (action : Action). (mark_decider side (action_mark action numbered.0 lower) ≡ action_decides placed.rule.action (admin_rule_name placed) below) × IsMarkOf side
     (action_mark action numbered.0 lower)) (sym says)
     (action_named side numbered.0 placed placed.rule.action lower below is refl lowers)
 
@@ -126,7 +125,7 @@ Pairwise-weaker R S weaker (x ∷ xs) (y ∷ ys) related = (weaker x y related.0
 -- the parts of a layer say what the rules at their places say
 pub says_of : (side : PodSide) (looks_at : PortSpot → Contact) (layer : Layer Conns) → IsLayer has_spot is_spot looks_at side.lists side.direction (near_pod side) layer → SaysActions side layer
 says_of side looks_at layer is = record {
-  admin = Pairwise-weaker (λ part placed. IsAdminPart has_spot is_spot looks_at part placed.rule) (λ part placed. part.action ≡ tier_action placed.rule.action)
+  admin = Pairwise-weaker (λ part placed. IsAdminPart has_spot is_spot looks_at part placed.rule) (λ part placed. part.action ≡ placed.rule.action)
       (λ part placed one. one.action) layer.admin (admin_rules side) is.admin;
   base = Pairwise-weaker (λ part placed. IsBasePart has_spot is_spot looks_at part placed.rule) (λ part placed. part.allow ≡ is_allow placed.rule.action) (λ part placed one. one.allow) layer.base
       (base_rules side) is.base;
@@ -154,7 +153,7 @@ module _ {S Spot : Type 0} (has : S → Spot → Bool) (in_space : Spot → Bool
   admins =
       admin_found (λ set. has set spot) (λ placed. admin_rule_matches placed.rule (looks_at spot)) (admin_rules side) 0 layer.admin (admin_rules side)
       (Pairwise-weaker (λ part placed. IsAdminPart has in_space looks_at part placed.rule)
-      (λ part placed. (part.action ≡ tier_action placed.rule.action) × (has part.set spot ≡ admin_rule_matches placed.rule (looks_at spot)))
+      (λ part placed. (part.action ≡ placed.rule.action) × (has part.set spot ≡ admin_rule_matches placed.rule (looks_at spot)))
       (λ part placed one. (one.action, one.members spot within)) layer.admin (admin_rules side) is.admin)
       (whole_stands (admin_rules side))
 

@@ -4,7 +4,7 @@ use Rattle.std.specs.List.{slice_get}
 use Rattle.std.specs.Option.{option_map, option_map_or}
 use Rattle.np_conns.specs.Prelude.{Conns}
 use Rattle.np_explain.specs.Types.{Decider, Layer, LayerRules, Mark, Marked, NetPolicy, Part, RuleName}
-use Rattle.np_rules.specs.Prelude.{NamesAdmin, NamesBase, NamesNet, Pairwise, PlacedAdminRule, PlacedBaseRule, PlacedNetRule, PodSide, admin_places, admin_rule_name, base_places, base_rule_name, is_allow, isolates, isolating_names, near_pod, net_places, net_policy_name, net_rule_name, tier_action}
+use Rattle.np_rules.specs.Prelude.{NamesAdmin, NamesBase, NamesNet, Pairwise, PlacedAdminRule, PlacedBaseRule, PlacedNetRule, PodSide, admin_places, admin_rule_name, base_places, base_rule_name, is_allow, isolates, isolating_names, near_pod, net_places, net_policy_name, net_rule_name}
 use Rattle.np_rules.specs.declared.decider.Decider.TheVariants as decider
 use Rattle.np_tiers.specs.declared.mark.Mark.TheVariants as mark
 
@@ -59,7 +59,7 @@ policy_name_at policies place = option_map_or net_policy_name (slice_get policie
 
 -- the parts of the layer say what the rules at their places say
 pub record SaysActions {S : Type 0} (side : PodSide) (layer : Layer S) : Type 0 where
-  pub admin : Pairwise (λ part placed. part.action ≡ tier_action placed.rule.action) layer.admin (admin_rules side)
+  pub admin : Pairwise (λ part placed. part.action ≡ placed.rule.action) layer.admin (admin_rules side)
   pub base : Pairwise (λ part placed. part.allow ≡ is_allow placed.rule.action) layer.base (base_rules side)
 
 -- so they do, and the rules at the places are named

@@ -3,14 +3,14 @@ ghost use Rattle.std.specs.Prelude.{◌≡◌, ◌<◌, length, IfOk, Some};
 ghost use Rattle.std.specs.List.{slice_get};
 ghost use Rattle.np_model.specs.Prelude.{IsFew};
 ghost use Rattle.np_explain.specs.Marks.{IsMarkOf, IsPassOf, SaysActions, admin_rules, base_rules, mark_decider, net_rules, pass_name};
-ghost use Rattle.np_model.specs.declared.admin_policy.Action.{Action as PolicyAction};
-ghost use Rattle.np_rules.specs.Prelude.{PlacedAdminRule, PlacedBaseRule, PlacedNetRule, admin_rule_name, base_rule_name, is_allow, net_rule_name, tier_action};
+ghost use Rattle.np_rules.specs.Prelude.{PlacedAdminRule, PlacedBaseRule, PlacedNetRule, admin_rule_name, base_rule_name, is_allow, net_rule_name};
 
 use crate::rule_names::{admin_rule_name, net_policy_names, net_rule_name};
 use np_base::{NoMemory, Text};
 use np_conns::ConnSet;
+use np_model::Action;
 use np_rules::{Decider, LayerRules, PodRules, PolicyNames, RuleName};
-use np_tiers::{Action, Layer, Mark};
+use np_tiers::{Layer, Mark};
 use std::alloc::Global;
 use std::marker::Model;
 
@@ -156,7 +156,7 @@ impl<'s, 'e> NamedSide<'s, 'e> {
 
 // Whether a rule that says so allows.
 fn is_allow(action: Action) -> bool
-    ensures { (said : PolicyAction) → action ≡ tier_action said → result ≡ is_allow said }
+    ensures { result ≡ is_allow action }
 {
     action == Action::Allow
 }

@@ -1,3 +1,4 @@
+pub mod Actions
 pub mod Families
 pub mod Lawful
 pub mod PodPlaces

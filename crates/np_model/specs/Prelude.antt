@@ -1,4 +1,5 @@
 -- The definitions and types of this crate that its proofs and the crates above speak of, one import line a file.
+pub use Rattle.np_model.specs.Actions.{action_says}
 pub use Rattle.np_model.specs.Families.{families_of, has_family, is_networks, is_of, or_four, same_family}
 pub use Rattle.np_model.specs.Lawful.{AgreeOnNamespace, AreNamesApart, ArePodsApart, AreServicesApart, HasAscendingPriorities, IsEarlierItem, IsFew, IsLawful, PolicyStandsBefore, SaysItsNamespace, are_apart, ascends, decides_before, is_well, is_well_pod}
 pub use Rattle.np_model.specs.Types.{AdminPeer, AdminPolicy, Family, Four, NetPolicy, Pod, Requirement, Selector, ServiceItem, Six}

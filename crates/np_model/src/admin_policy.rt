@@ -7,7 +7,7 @@ use np_labels::Selector;
 
 /// What an admin rule says of the packets that it matches (network-policy-api reference,
 /// AdminNetworkPolicyRuleAction).
-#[derive(Clone, Copy, PartialEq, Eq)]
+#[derive(Clone, Copy, Debug, PartialEq, Eq)]
 pub enum Action {
     Allow,
     Deny,

@@ -13,7 +13,8 @@ use Rattle.np_rules.proofs.NetTierLemmas as net
 use Rattle.np_rules.proofs.PlacesLemmas.{list_any-numbered}
 use Rattle.np_rules.proofs.SideLemmas.{places-matches}
 use Rattle.np_rules.specs.Prelude.{Contact, IsAmong, ModelEnd, PlacedAdminRule, PodEnd, admin_candidates, admin_decider, admin_entry_matches, admin_peer_matches, admin_places, admin_places_of, admin_precedes, admin_rule_matches, admin_rules_of, base_decider, is_isolated, net_entry_matches, net_peer_matches, net_places, net_rule_matches, net_rules_of, net_selects, none_or_any, permits, placed_net_matches, subject_selects}
-use Rattle.np_rules.specs.model.Sides.{action_says, admin_says, base_says, is_allow, side_allows}
+use Rattle.np_model.specs.Prelude.{action_says}
+use Rattle.np_rules.specs.model.Sides.{admin_says, base_says, is_allow, side_allows}
 
 and_quieter : (a b c : Bool) → (b ≡ false → c ≡ false) → (a && b) ≡ false → (a && c) ≡ false
 and_quieter true b c weaker none = weaker none

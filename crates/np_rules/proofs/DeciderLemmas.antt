@@ -5,7 +5,8 @@ use Rattle.std.specs.List.{AllByRecursion, list_any}
 use Rattle.std.proofs.lemmas.Bool.Decides.{nat_tests}
 use Rattle.np_base.proofs.Each.{All-weaker}
 use Rattle.np_base.proofs.Options.{some_is}
-use Rattle.np_rules.specs.Prelude.{Action, Allow, Contact, Decider, Deny, Direction, EstateLists, IsAmong, ModelEnd, Pass, PlacedAdminRule, PlacedBaseRule, PlacedNetRule, PodEnd, RuleName, action_decides, action_says, address, admin_decider, admin_decides, admin_precedes, admin_rule_name, admin_says, base_decider, base_decides, base_says, decider, decider_allows, end_allows, is_isolated, isolating_names, least_by, lower_allows, lower_decider, net_decider, net_decides, net_places, net_precedes, permits, placed_net_matches, pod, side_allows, sooner}
+use Rattle.np_rules.specs.Prelude.{Action, Allow, Contact, Decider, Deny, Direction, EstateLists, IsAmong, ModelEnd, Pass, PlacedAdminRule, PlacedBaseRule, PlacedNetRule, PodEnd, RuleName, action_decides, address, admin_decider, admin_decides, admin_precedes, admin_rule_name, admin_says, base_decider, base_decides, base_says, decider, decider_allows, end_allows, is_isolated, isolating_names, least_by, lower_allows, lower_decider, net_decider, net_decides, net_places, net_precedes, permits, placed_net_matches, pod, side_allows, sooner}
+use Rattle.np_model.specs.Prelude.{action_says}
 
 -- ---- what decides says what the side says
 

@@ -5,11 +5,10 @@ use Rattle.std.specs.Str.{bytes_eq}
 use Rattle.std.proofs.lemmas.Bool.{and_parts}
 use Rattle.std.proofs.lemmas.List.{map-append}
 use Rattle.std.proofs.lemmas.Slice.Eq.{bytes_eq-Decides}
-use Rattle.np_model.specs.Prelude.{HasAscendingPriorities}
-use Rattle.np_rules.specs.Prelude.{Action, AdminPart, BasePart, Contact, Direction, EstateLists, IsAdminPart, IsBasePart, IsLayer, IsSetOf, Layer, NetPolicy, NetRule, Pairwise, PlacedAdminRule, PlacedBaseRule, PlacedNetRule, PodEnd, action_says, admin_places, admin_rule_matches, admin_says, base_places, base_says, is_isolated, matches_of, net_places, net_places_of, net_rule_matches, net_rules_of, net_selects, placed_net_matches, side_allows, tier_action}
+use Rattle.np_model.specs.Prelude.{HasAscendingPriorities, action_says}
+use Rattle.np_rules.specs.Prelude.{AdminPart, BasePart, Contact, Direction, EstateLists, IsAdminPart, IsBasePart, IsLayer, IsSetOf, Layer, NetPolicy, NetRule, Pairwise, PlacedAdminRule, PlacedBaseRule, PlacedNetRule, PodEnd, admin_places, admin_rule_matches, admin_says, base_places, base_says, is_isolated, matches_of, net_places, net_places_of, net_rule_matches, net_rules_of, net_selects, placed_net_matches, side_allows}
 use Rattle.np_labels.specs.Prelude.{meets_selector}
-use Rattle.np_model.specs.declared.admin_policy.Action.TheVariants as policy
-use Rattle.np_tiers.specs.Prelude.{action_allows, admin_allows, base_allows, lower_allows, walk_allows}
+use Rattle.np_tiers.specs.Prelude.{admin_allows, base_allows, lower_allows, walk_allows}
 use Rattle.np_rules.specs.model.Sides as sides
 use Rattle.np_rules.proofs.AdminTierLemmas.{decider_is_first}
 use Rattle.np_rules.proofs.NetTierLemmas as net
@@ -49,11 +48,6 @@ matches_in_namespace (policy ∷ policies) direction p =
 
 -- ---- what the walk of a layer says
 
-action_same : (action : Action) (below : Bool) → action_allows (tier_action action) below ≡ action_says action below
-action_same policy.Allow below = refl
-action_same policy.Deny below = refl
-action_same policy.Pass below = refl
-
 -- the first admin part that has the spot says what the first matching rule says
 pub admin_same : {S Spot : Type 0} (has : S → Spot → Bool) (in_space : Spot → Bool) (contact_at : Spot → Contact) (spot : Spot) → in_space spot ≡ true →
     (below : Bool) (parts : List (AdminPart S)) (places : List PlacedAdminRule) → Pairwise (λ part placed. IsAdminPart has in_space contact_at part placed.rule) parts places →
@@ -67,7 +61,7 @@ admin_same has in_space contact_at spot within below (part ∷ parts) (placed �
     go : (b : Bool) → admin_allows (find (λ part. has part.set spot) parts) below ≡ admin_says (find (λ placed. admin_rule_matches placed.rule (contact_at spot)) places) below →
         admin_allows (if b then Some part else find (λ part. has part.set spot) parts) below ≡ admin_says
         (if b then Some placed else find (λ placed. admin_rule_matches placed.rule (contact_at spot)) places) below
-    go true rest = ap (λ a. action_allows a below) related.0.action ∙ action_same placed.rule.action below
+    go true rest = ap (λ a. action_says a below) related.0.action
     go false rest = rest
 
 -- some set has the spot where some rule matches

@@ -5,7 +5,8 @@ use Rattle.std.specs.Option.{option_map, option_map_or}
 use Rattle.std.proofs.lemmas.Bool.{and_left, or_parts, or_from, or_left}
 use Rattle.std.proofs.lemmas.Grind.{flat_map-append}
 use Rattle.std.proofs.lemmas.List.Folds.{list_any-append}
-use Rattle.np_rules.specs.Prelude.{Action, Allow, BasePolicy, Contact, Deny, Direction, Egress, EstateLists, Ingress, NetPolicy, NetRule, Pass, PlacedAdminRule, PodEnd, action_says, admin_decider, admin_places_of, admin_says, base_decider, base_places, base_says, is_isolated, isolates, net_places, net_places_of, net_rule_matches, net_rules_of, net_selects, permits, placed_net_matches, side_allows, subject_selects, with_net_policies, with_rule}
+use Rattle.np_rules.specs.Prelude.{Action, Allow, BasePolicy, Contact, Deny, Direction, Egress, EstateLists, Ingress, NetPolicy, NetRule, Pass, PlacedAdminRule, PodEnd, admin_decider, admin_places_of, admin_says, base_decider, base_places, base_says, is_isolated, isolates, net_places, net_places_of, net_rule_matches, net_rules_of, net_selects, permits, placed_net_matches, side_allows, subject_selects, with_net_policies, with_rule}
+use Rattle.np_model.specs.Prelude.{action_says}
 use Rattle.np_rules.proofs.NetTierLemmas.{places_by}
 use Rattle.np_rules.proofs.PlacesLemmas.{list_any-numbered}
 

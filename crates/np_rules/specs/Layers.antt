@@ -1,10 +1,7 @@
 -- The layer of a pod's side: the rules that speak of the pod as sets, place by place. Each spot of the sets stands for
 -- something that the side may look at, a contact.
 use Rattle.std.specs.Prelude.{◌≡◌, List, [], ◌∷◌, Bool, true}
-use Rattle.np_rules.specs.Types.{Action, AdminPart, AdminRule, BasePart, Direction, EstateLists, Layer}
-use Rattle.np_model.specs.declared.admin_policy.Action.TheVariants as policy
-use Rattle.np_tiers.specs.declared.layer.Action.{Action as TierAction}
-use Rattle.np_tiers.specs.declared.layer.Action.TheVariants as tier
+use Rattle.np_rules.specs.Types.{AdminPart, AdminRule, BasePart, Direction, EstateLists, Layer}
 use Rattle.np_rules.specs.model.Ends.{Contact, PodEnd}
 use Rattle.np_rules.specs.model.NetTier.{is_isolated}
 use Rattle.np_rules.specs.model.Places.{PlacedNetRule, admin_places, base_places, net_places}
@@ -22,15 +19,9 @@ Pairwise R (x ∷ xs) (y ∷ ys) = R x y × Pairwise R xs ys
 abbrev pub IsSetOf : {S Spot : Type 0} → (S → Spot → Bool) → (Spot → Bool) → (Spot → Contact) → S → (Contact → Bool) → Type 0
 IsSetOf {S} {Spot} has in_space contact_at set passes = (spot : Spot) → in_space spot ≡ true → has set spot ≡ passes (contact_at spot)
 
--- what an admin rule says, as the tiers have it
-abbrev pub tier_action : Action → TierAction
-tier_action policy.Allow = tier.Allow
-tier_action policy.Deny = tier.Deny
-tier_action policy.Pass = tier.Pass
-
 -- a part of the admin tier is that of a rule: what the rule says, and what it matches
 pub record IsAdminPart {S Spot : Type 0} (has : S → Spot → Bool) (in_space : Spot → Bool) (contact_at : Spot → Contact) (part : AdminPart S) (rule : AdminRule) : Type 0 where
-  pub action : part.action ≡ tier_action rule.action
+  pub action : part.action ≡ rule.action
   pub members : IsSetOf has in_space contact_at part.set (admin_rule_matches rule)
 
 -- what a rule of a NetworkPolicy matches, as one of its policy's namespace

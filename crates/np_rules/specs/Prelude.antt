@@ -5,7 +5,7 @@ pub use Rattle.np_rules.specs.Deciders.{action_decides, admin_decides, admin_rul
 pub use Rattle.np_rules.specs.EveryAddress.{AddressSpot, address_contact, address_of, admin_peer_has, every_contact, has_address_spot, is_address_spot, net_peer_has, spot_of}
 pub use Rattle.np_rules.specs.Laws.{IsAmong, has_networks, rules_list_networks, with_net_policies, with_rule}
 pub use Rattle.np_rules.specs.LayerRules.{NamesAdmin, NamesBase, NamesNet, ids_from}
-pub use Rattle.np_rules.specs.Layers.{IsAdminPart, IsBasePart, IsLayer, IsSetOf, Pairwise, matches_of, tier_action}
+pub use Rattle.np_rules.specs.Layers.{IsAdminPart, IsBasePart, IsLayer, IsSetOf, Pairwise, matches_of}
 pub use Rattle.np_rules.specs.OneEnd.{one_contact}
 pub use Rattle.np_rules.specs.PodSides.{IsSideLayer, KeepsPolicies, KeepsRules, PodSide, SaysVerdicts, near_pod, side_of, side_rule_count, with_addresses, with_pod, with_point, with_stranger}
 pub use Rattle.np_rules.specs.PolicyRules.{AreIsolating, AreSelecting, IsPolicyAt, ids_of, net_rules_in}
@@ -24,7 +24,7 @@ pub use Rattle.np_rules.specs.model.Places.{PlacedAdminRule, PlacedBaseRule, Pla
 pub use Rattle.np_rules.specs.model.PortEntries.{admin_entry_matches, admin_same_at_addresses, has_named, in_span, is_named, net_entry_matches, net_same_at_addresses}
 pub use Rattle.np_rules.specs.model.Rules.{admin_rule_matches, net_rule_matches, none_or_any}
 pub use Rattle.np_rules.specs.model.Selection.{net_selects, subject_selects}
-pub use Rattle.np_rules.specs.model.Sides.{action_says, admin_says, base_says, is_allow, lower_allows}
+pub use Rattle.np_rules.specs.model.Sides.{admin_says, base_says, is_allow, lower_allows}
 unfoldable pub use Rattle.np_rules.specs.model.Sides.{side_allows}
 pub use Rattle.np_rules.specs.model.Verdict.{IsEndOf, end_allows, end_of, no_pod, packet_of, pod_at}
 unfoldable pub use Rattle.np_rules.specs.model.Verdict.{allows}

@@ -60,11 +60,7 @@ impl FarEnds<AddrConns> for EveryAddress<'_> {
         at_addresses(alloc, &addresses, &conns)
     }
 
-    fn held_once(
-        &self,
-        before: Option<&AddrConns>,
-        set: AddrConns,
-    ) -> Result<AddrConns, NoMemory> {
+    fn held_once(&self, before: Option<&AddrConns>, set: AddrConns) -> Result<AddrConns, NoMemory> {
         match before {
             Some(before) if before.same(&set) => before.copy(),
             _ => Ok(set),

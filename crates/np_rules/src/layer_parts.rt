@@ -1,6 +1,5 @@
 //! The tiers of a layer, for any kind of far ends.
 ghost use Rattle.std.specs.Prelude.{◌≡◌, map, IfOk};
-ghost use Rattle.np_rules.specs.Layers as spec;
 ghost use Rattle.np_rules.specs.Prelude.{IsAdminPart, IsBasePart, IsSetOf, Pairwise, is_allow, net_rule_matches};
 
 use crate::far_ends::FarEnds;
@@ -23,22 +22,11 @@ pub(crate) fn admin_parts<S: Cells, F: FarEnds<S>>(
         let found = far.admin_set(alloc, rule)?;
         let set = far.held_once(parts.last().map(|part| &part.set), found)?;
         parts.push(AdminPart {
-            action: tier_action(rule.action),
+            action: rule.action,
             set,
         })?;
     }
     Ok(Seq::from_vec(parts))
-}
-
-// What an admin rule says, as the tiers have it.
-fn tier_action(action: Action) -> np_tiers::Action
-    ensures { result ≡ spec.tier_action action }
-{
-    match action {
-        Action::Allow => np_tiers::Action::Allow,
-        Action::Deny => np_tiers::Action::Deny,
-        Action::Pass => np_tiers::Action::Pass,
-    }
 }
 
 /// The sets of the rules of NetworkPolicies of this namespace.

@@ -3,7 +3,8 @@
 use crate::sets::Written;
 use np_base::{Cells, Seq};
 use np_conns::ConnSet;
-use np_tiers::{Action, AdminPart, BasePart, Layer, Mark, Marked, carve, verdict_set};
+use np_model::Action;
+use np_tiers::{AdminPart, BasePart, Layer, Mark, Marked, carve, verdict_set};
 use std::alloc::Global;
 use std::process::Abort;
 

@@ -4,7 +4,8 @@ use Rattle.std.proofs.lemmas.Bool.{cases_Bool}
 use Rattle.std.specs.List.{list_any, slice_get, position_from}
 use Rattle.std.specs.Option.{option_map_or}
 use Rattle.std.proofs.Math.Bool.{or-false}
-use Rattle.np_tiers.specs.Prelude.{Action, AdminPart, Allow, Deny, Layer, Marked, Pass, action_allows, action_mark, admin_allows, base_allows, base_mark, lower_allows, lower_mark, mark_allows, mark_of, marks_at, net_mark, walk_allows}
+use Rattle.np_tiers.specs.Prelude.{Action, AdminPart, Allow, Deny, Layer, Marked, Pass, action_mark, admin_allows, base_allows, base_mark, lower_allows, lower_mark, mark_allows, mark_of, marks_at, net_mark, walk_allows}
+use Rattle.np_model.specs.Prelude.{action_says}
 use Rattle.np_tiers.proofs.Choice.{at_choice}
 use Rattle.np_tiers.proofs.FirstMatch.{Tier}
 use Rattle.np_tiers.proofs.Tiers.{net_tier, base_tier, admin_tier}
@@ -55,15 +56,15 @@ module _ {S : Type 0} (at : S → Bool) (layer : Layer S) where
       ∙ ap (λ (b : Bool). if layer.isolated then list_any at layer.net else b)
       (tier_says (base_tier pass) base_allows layer.base (λ place. refl) (λ place part stands. rw stands refl) 0 layer.base (whole_stands layer.base))
 
-  action_says : (action : Action) (part : AdminPart S) (place : ℕ) → part.action ≡ action → slice_get layer.admin place ≡ Some part →
-      mark_allows layer (action_mark action place (lower_mark at layer)) ≡ action_allows action (lower_allows at layer)
-  action_says Allow part place is stands = rw (stands, is) refl
-  action_says Deny part place is stands = rw (stands, is) refl
-  action_says Pass part place is stands = lower_says (Some place)
+  part_says : (action : Action) (part : AdminPart S) (place : ℕ) → part.action ≡ action → slice_get layer.admin place ≡ Some part →
+      mark_allows layer (action_mark action place (lower_mark at layer)) ≡ action_says action (lower_allows at layer)
+  part_says Allow part place is stands = rw (stands, is) refl
+  part_says Deny part place is stands = rw (stands, is) refl
+  part_says Pass part place is stands = lower_says (Some place)
 
   pub mark_says : mark_allows layer (mark_of at layer) ≡ walk_allows at layer
   mark_says = tier_says (admin_tier layer) (λ first. admin_allows first (lower_allows at layer)) layer.admin (λ place. lower_says None)
-      (λ place part stands. action_says part.action part place refl stands) 0 layer.admin (whole_stands layer.admin)
+      (λ place part stands. part_says part.action part place refl stands) 0 layer.admin (whole_stands layer.admin)
 
   -- some entry that has the spot allows, where some mark of theirs does
   any_by_marks : (entries : List (Marked S)) → list_any (λ entry. at entry.set && mark_allows layer entry.mark) entries ≡ list_any (mark_allows layer) (marks_at at entries)

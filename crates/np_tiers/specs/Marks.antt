@@ -2,7 +2,7 @@
 use Rattle.std.specs.Prelude.{Bool, true, false, ℕ, Option, Some, None, if◌then◌else◌, List, map, filter, find}
 use Rattle.std.specs.List.{slice_get, position_from, enumerate_from}
 use Rattle.std.specs.Option.{option_map_or}
-use Rattle.np_tiers.specs.Walk.{action_allows}
+use Rattle.np_model.specs.Prelude.{action_says}
 use Rattle.np_tiers.specs.Types.{Action, Admin, AdminPart, Allow, Base, Deny, Free, Isolated, Layer, Mark, Marked, Net, Pass}
 
 -- what decides by the place of the first `net` set that has the spot
@@ -36,7 +36,7 @@ mark_of at layer = admin_mark (find (λ numbered. at numbered.1.set) (enumerate_
 
 -- Whether the layer allows what the mark decides. An admin part with `Pass` decides nothing.
 abbrev pub mark_allows : {S : Type 0} → Layer S → Mark → Bool
-mark_allows layer (Admin place) = option_map_or (λ part. action_allows part.action false) (slice_get layer.admin place) false
+mark_allows layer (Admin place) = option_map_or (λ part. action_says part.action false) (slice_get layer.admin place) false
 mark_allows layer (Net pass place) = true
 mark_allows layer (Isolated pass) = false
 mark_allows layer (Base pass place) = option_map_or (λ part. part.allow) (slice_get layer.base place) false

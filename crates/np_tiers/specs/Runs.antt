@@ -1,7 +1,7 @@
 -- What a list of parts of one tier says of a spot.
 use Rattle.std.specs.Prelude.{◌≡◌, Bool, true, false, not, Option, Some, None, is_some, List, find}
 use Rattle.std.specs.Option.{option_map}
-use Rattle.np_tiers.specs.Walk.{action_allows}
+use Rattle.np_model.specs.Prelude.{action_says}
 use Rattle.np_tiers.specs.Types.{Action, Allow, Deny, Run}
 
 -- what a base part says, as an action
@@ -16,7 +16,7 @@ first_action set_of action_of at parts = option_map action_of (find (λ part. at
 -- what the first part says, and without one the tiers below, which say `below`
 abbrev pub first_allows : Option Action → Bool → Bool
 first_allows None below = below
-first_allows (Some action) below = action_allows action below
+first_allows (Some action) below = action_says action below
 
 -- The sets of the run are those of the parts whose first one that has a spot says `first` of it: the spots that are
 -- allowed whatever is below, those that are denied whatever is below, and those that some part has.

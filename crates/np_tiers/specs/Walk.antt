@@ -1,18 +1,13 @@
 -- The walk of a layer at one spot. `at` tells which sets have the spot.
 use Rattle.std.specs.Prelude.{Bool, true, false, if◌then◌else◌, Option, Some, None, find}
 use Rattle.std.specs.List.{list_any}
-use Rattle.np_tiers.specs.Types.{Action, AdminPart, Allow, BasePart, Deny, Layer, Pass}
-
--- what the action says, where the tiers below say `below`
-abbrev pub action_allows : Action → Bool → Bool
-action_allows Allow below = true
-action_allows Deny below = false
-action_allows Pass below = below
+use Rattle.np_model.specs.Prelude.{action_says}
+use Rattle.np_tiers.specs.Types.{AdminPart, BasePart, Layer}
 
 -- what the first admin part that has the spot says, and the tiers below without one
 abbrev pub admin_allows : {S : Type 0} → Option (AdminPart S) → Bool → Bool
 admin_allows None below = below
-admin_allows (Some part) below = action_allows part.action below
+admin_allows (Some part) below = action_says part.action below
 
 -- what the first base part that has the spot says; without one the spot is allowed
 abbrev pub base_allows : {S : Type 0} → Option (BasePart S) → Bool

@@ -3,9 +3,10 @@ ghost use Rattle.std.specs.Prelude.{◌≡◌, ◌≢◌, ◌↔◌, ◌∷◌, 
 ghost use Rattle.std.specs.List.{position_from};
 ghost use Rattle.np_tiers.specs.Prelude.{IsCarving, action_mark, admin_place, base_mark, lower_mark, mark_of, marks_at, net_mark};
 
-use crate::layer::{Action, AdminPart, BasePart, Layer};
+use crate::layer::{AdminPart, BasePart, Layer};
 use crate::mark::{Mark, Marked};
 use np_base::{Cells, NoMemory, Seq};
+use np_model::Action;
 use std::alloc::Global;
 
 /// One entry for each mark that decides some spot of the space, with exactly the spots that it decides. So the sets

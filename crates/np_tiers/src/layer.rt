@@ -1,17 +1,10 @@
 //! The layer of one pod and direction: the rules of its tiers as sets.
 
 use np_base::Seq;
+use np_model::Action;
 
-/// What a rule of an AdminNetworkPolicy says of the spots that it matches. `Pass` leaves them to the tiers below,
-/// past all further admin rules.
-#[derive(Clone, Copy, Debug, PartialEq, Eq)]
-pub enum Action {
-    Allow,
-    Deny,
-    Pass,
-}
-
-/// A rule of an AdminNetworkPolicy, with the set of spots that it matches.
+/// A rule of an AdminNetworkPolicy, with the set of spots that it matches. `Pass` leaves them to the tiers below, past all further
+/// admin rules.
 #[derive(Debug, Drop)]
 pub struct AdminPart<S> {
     pub action: Action,

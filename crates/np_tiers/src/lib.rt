@@ -13,6 +13,6 @@ mod verdict;
 
 pub use carving::carve;
 pub use laws::{allowed_is_union_of_carved, mark_says_what_the_walk_says};
-pub use layer::{Action, AdminPart, BasePart, Layer};
+pub use layer::{AdminPart, BasePart, Layer};
 pub use mark::{Mark, Marked};
 pub use verdict::verdict_set;

@@ -2,11 +2,11 @@
 ghost use Rattle.std.specs.Prelude.{◌≡◌, ◌&&◌, ◌<◌, Bool, Option, Some, None, if◌then◌else◌, IfOk, length};
 ghost use Rattle.std.specs.Option.{option_or};
 ghost use Rattle.np_tiers.specs.Runs.{first_action, first_allows, IsRun};
-ghost use Rattle.np_tiers.specs.declared.layer.Action.{Action as TierAction};
+ghost use Rattle.np_model.specs.declared.admin_policy.Action.{Action as TierAction};
 
-use crate::layer::Action;
 use crate::tier_rule::TierRule;
 use np_base::{Cells, NoMemory};
+use np_model::Action;
 use std::alloc::Global;
 
 /// What a list of parts makes of the spots. The first part that has a spot says.

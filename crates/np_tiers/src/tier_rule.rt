@@ -1,11 +1,12 @@
 //! The parts of a tier, whichever it is.
 ghost use Rattle.std.specs.Prelude.{◌≡◌};
 
-use crate::layer::{Action, AdminPart, BasePart};
+use crate::layer::{AdminPart, BasePart};
+use np_model::Action;
 
 /// A rule of a tier: the set of the spots that it matches, and what it says of them.
 pub(crate) trait TierRule<S> {
-    ghost use Rattle.np_tiers.specs.declared.layer.Action.{Action};
+    ghost use Rattle.np_model.specs.declared.admin_policy.Action.{Action};
 
     ghost set_of: { Self → S };
 

@@ -1,11 +1,13 @@
 //! The set of the spots that a layer allows.
 ghost use Rattle.std.specs.Prelude.{◌≡◌, true, if◌then◌else◌, IfOk};
-ghost use Rattle.np_tiers.specs.Prelude.{action_allows, first_action, first_allows, lower_allows, walk_allows};
+ghost use Rattle.np_tiers.specs.Prelude.{first_action, first_allows, lower_allows, walk_allows};
+ghost use Rattle.np_model.specs.Prelude.{action_says};
 
-use crate::layer::{Action, Layer};
+use crate::layer::Layer;
 use crate::run::run_of;
 use crate::tier_rule::TierRule;
 use np_base::{Cells, NoMemory, join_all};
+use np_model::Action;
 use std::alloc::Global;
 
 // How many parts at most are looked at one after the other. Each costs an operation on all that is allowed so far,
@@ -84,7 +86,7 @@ fn few_parts_set<S: Cells, P: TierRule<S>>(parts: &[P], lower: &S) -> Result<S, 
 fn before<S: Cells, P: TierRule<S>>(part: &P, after: &S, lower: &S) -> Result<S, NoMemory>
     ensures members { IfOk result (λ made. (spot : S.Spot) →
         S.has made spot ≡ (if S.has (P.set_of part.now) spot
-        then action_allows (P.action_of part.now) (S.has lower.now spot) else S.has after.now spot)) }
+        then action_says (P.action_of part.now) (S.has lower.now spot) else S.has after.now spot)) }
     ensures well { IfOk result S.IsWell }
 {
     let set = part.set();

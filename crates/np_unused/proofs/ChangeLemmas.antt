@@ -3,7 +3,7 @@ use Rattle.std.proofs.Common.{◌≡◌, ℕ, ◌<◌, List, [], Bool, true, fal
 use Rattle.std.specs.List.{enumerate_from, list_any}
 use Rattle.std.specs.Option.{option_map, option_map_or}
 use Rattle.np_tiers.proofs.Verdicts.{whole_stands}
-use Rattle.np_model.specs.Prelude.{IsLawful}
+use Rattle.np_model.specs.Prelude.{IsLawful, action_says}
 use Rattle.np_unused.specs.Prelude.{AdminPolicy, AdminRule, BasePolicy, Decider, Direction, EstateLists, NetPolicy, NetRule, RuleName, RuleRef, Tier, admin_without, base_without, goes, net_without, ref_of, rule_count_at, rule_in, rule_name, without}
 use Rattle.np_explain.proofs.RuleLemmas.{net_decider_is_first}
 use Rattle.np_rules.proofs.StrangerLemmas.{any-map}
@@ -14,7 +14,7 @@ use Rattle.np_model.specs.declared.admin_policy.Action.{Action}
 use Rattle.np_model.specs.declared.admin_policy.Action.TheVariants.{Allow, Deny, Pass}
 use Rattle.np_rules.proofs.AdminTierLemmas.{decider_is_first}
 use Rattle.np_rules.proofs.PairwiseLemmas.{map-map}
-use Rattle.np_rules.specs.Prelude.{Contact, PlacedAdminRule, PlacedBaseRule, PlacedNetRule, PodEnd, action_decides, action_says, admin_decider, admin_decides, admin_places, admin_rule_matches, admin_rule_name, admin_rules_of, admin_says, base_decider, base_decides, base_places, base_says, decider, is_allow, is_isolated, isolating_names, lower_allows, lower_decider, net_decider, net_decides, net_places, net_policy_name, net_rule_matches, net_rule_name, net_rules_of, permits, placed_net_matches, pod, side_allows}
+use Rattle.np_rules.specs.Prelude.{Contact, PlacedAdminRule, PlacedBaseRule, PlacedNetRule, PodEnd, action_decides, admin_decider, admin_decides, admin_places, admin_rule_matches, admin_rule_name, admin_rules_of, admin_says, base_decider, base_decides, base_places, base_says, decider, is_allow, is_isolated, isolating_names, lower_allows, lower_decider, net_decider, net_decides, net_places, net_policy_name, net_rule_matches, net_rule_name, net_rules_of, permits, placed_net_matches, pod, side_allows}
 use Rattle.np_explain.proofs.NamedLemmas.{of_found}
 
 -- ---- what rules say

@@ -3,7 +3,8 @@ use Rattle.std.proofs.Common.{◌≡◌, ◌⊎◌, ℕ, zero, suc, ◌+◌, ◌
 use Rattle.std.specs.List.{list_any, position_from, slice_get}
 use Rattle.std.specs.Option.{option_and_then, option_map, option_map_or, option_or}
 use Rattle.np_unused.specs.Prelude.{Action, AdminPart, Allow, Deny, Pass, RuleId, RuleSpots, first_at, first_rule, hands_down, is_pass}
-use Rattle.np_tiers.specs.Prelude.{action_allows, admin_allows}
+use Rattle.np_tiers.specs.Prelude.{admin_allows}
+use Rattle.np_model.specs.Prelude.{action_says}
 
 -- ---- two lists
 
@@ -115,7 +116,7 @@ pub hands_down-between : {S : Type 0} (at : S → Bool) (parts : List (AdminPart
     under ≡ admin_allows (find (λ part. at part.set) parts) false → made ≡ (over && not under) → made ≡ hands_down at parts
 hands_down-between {S} at parts over under made is_over is_under is = is ∙ rw (is_over, is_under) (by (find (λ part. at part.set) parts))
   where
-    acts : (action : Action) → (action_allows action true && not (action_allows action false)) ≡ is_pass action
+    acts : (action : Action) → (action_says action true && not (action_says action false)) ≡ is_pass action
     acts Allow = refl
     acts Deny = refl
     acts Pass = refl

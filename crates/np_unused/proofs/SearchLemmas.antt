@@ -9,7 +9,7 @@ use Rattle.np_unused.proofs.KnownLemmas.{marks_test}
 use Rattle.np_unused.proofs.NameLemmas.{mark_rule, met_flagged, met_named}
 use Rattle.np_unused.specs.Prelude.{AllAreUsed, AreRulesOf, AreUsed, IsSound, Knows, KnowsAll, Layer, LayerRules, Mark, Notes, Searched, Tier, UsedRules, all_known, are_known, flag_at, flags_of, ids_of, is_known, is_met, marks, place_in, ref_of, rule_count_at, rule_name, side_decider, stands_in}
 use Rattle.np_unused.specs.declared.rule_ref.Tier.TheVariants as tier
-use Rattle.np_rules.specs.Prelude.{Contact, IsAdminPart, IsBasePart, IsLayer, IsSetOf, Pairwise, PodSide, admin_rule_matches, is_allow, is_isolated, matches_of, near_pod, tier_action}
+use Rattle.np_rules.specs.Prelude.{Contact, IsAdminPart, IsBasePart, IsLayer, IsSetOf, Pairwise, PodSide, admin_rule_matches, is_allow, is_isolated, matches_of, near_pod}
 use Rattle.np_tiers.specs.Prelude.{mark_of}
 
 -- ---- marks and rules
@@ -55,7 +55,7 @@ module _ (side : PodSide) (lawful : IsLawful side.lists) where
   -- the layer of the side whose sets are tests of contacts
   tests : Layer (Contact → Bool)
   tests = record {
-    admin = map (λ placed. record { action = tier_action placed.rule.action; set = admin_rule_matches placed.rule }) (admin_rules side);
+    admin = map (λ placed. record { action = placed.rule.action; set = admin_rule_matches placed.rule }) (admin_rules side);
     isolated = is_isolated side.lists.net_policies side.direction (near_pod side);
     net = map matches_of (net_rules side);
     base = map (λ placed. record { allow = is_allow placed.rule.action; set = admin_rule_matches placed.rule }) (base_rules side);
@@ -68,7 +68,7 @@ module _ (side : PodSide) (lawful : IsLawful side.lists) where
   unfolding tests has_contact
   is_layer = record {
     admin = Pairwise-made (λ part placed. IsAdminPart has_contact (λ _. true) (λ looks_at. looks_at) part placed.rule)
-        (λ placed. record { action = tier_action placed.rule.action; set = admin_rule_matches placed.rule }) (λ placed. record { action = refl; members = λ spot inside. refl }) (admin_rules side);
+        (λ placed. record { action = placed.rule.action; set = admin_rule_matches placed.rule }) (λ placed. record { action = refl; members = λ spot inside. refl }) (admin_rules side);
     isolated = refl;
     net = Pairwise-made (λ set placed. IsSetOf has_contact (λ _. true) (λ looks_at. looks_at) set (matches_of placed)) matches_of (λ placed spot inside. refl) (net_rules side);
     base = Pairwise-made (λ part placed. IsBasePart has_contact (λ _. true) (λ looks_at. looks_at) part placed.rule)

@@ -2,8 +2,8 @@
 pub use Rattle.np_conns.specs.declared.port_spot.PortSpot.{PortSpot}
 pub use Rattle.np_addr.specs.declared.address.Address.TheVariants.{Four, Six}
 pub use Rattle.np_addr.specs.declared.address.Family.{Family}
-pub use Rattle.np_tiers.specs.declared.layer.Action.{Action}
-pub use Rattle.np_tiers.specs.declared.layer.Action.TheVariants.{Allow, Deny, Pass}
+pub use Rattle.np_model.specs.declared.admin_policy.Action.{Action}
+pub use Rattle.np_model.specs.declared.admin_policy.Action.TheVariants.{Allow, Deny, Pass}
 pub use Rattle.np_tiers.specs.declared.layer.AdminPart.{AdminPart}
 pub use Rattle.np_tiers.specs.declared.layer.Layer.{Layer}
 pub use Rattle.np_tiers.specs.declared.mark.Mark.{Mark}

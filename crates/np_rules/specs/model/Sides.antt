@@ -1,18 +1,13 @@
 -- What a pod's own side says of a packet.
 use Rattle.std.specs.Prelude.{Bool, true, false, Option, if◌then◌else◌}
 use Rattle.std.specs.Option.{option_map_or}
-use Rattle.np_rules.specs.Types.{Action, Allow, Deny, Direction, EstateLists, Pass}
+use Rattle.np_rules.specs.Types.{Action, Allow, Direction, EstateLists}
+use Rattle.np_model.specs.Prelude.{action_says}
 use Rattle.np_rules.specs.model.AdminTier.{admin_decider}
 use Rattle.np_rules.specs.model.BaseTier.{base_decider}
 use Rattle.np_rules.specs.model.Ends.{Contact, PodEnd}
 use Rattle.np_rules.specs.model.NetTier.{is_isolated, permits}
 use Rattle.np_rules.specs.model.Places.{PlacedAdminRule, PlacedBaseRule}
-
--- what an admin rule says, where the tiers below say `below`
-abbrev pub action_says : Action → Bool → Bool
-action_says Allow below = true
-action_says Deny below = false
-action_says Pass below = below
 
 -- what the admin rule that decides says; without one the tiers below say
 abbrev pub admin_says : Option PlacedAdminRule → Bool → Bool

@@ -1,4 +1,4 @@
-use Rattle.std.proofs.Common.{[], subst, sym}
+use Rattle.std.proofs.Common.{[], refl, subst, sym}
 use Rattle.np_rules.specs.Prelude.{IsAdminPart, IsSetOf, admin_rule_matches}
 use Rattle.np_rules.proofs.PairwiseLemmas.{Pairwise-next-map}
 use Rattle.np_rules.proofs.layer_parts.admin_parts.Goals as goal
@@ -7,7 +7,7 @@ pub loop-rule-preserved : goal.loop-rule-preserved
 loop-rule-preserved g c = Pairwise-next-map (IsAdminPart g.S.Cells.has g.S.Cells.in_space (g.F.FarEnds.contact_at c.args.far.now))
     (λ rule. rule.now) _ [] c.args.rules.now c.loop-rule.rule-index _ c.rule-item.result _ c.loop-rule-test.true c.rule-item.is c.in_ok-push.ensures.items c.loop-rule.invariant
     (record {
-      action = c.tier_action.ensures;
+      action = refl;
       members = subst (λ set. IsSetOf g.S.Cells.has g.S.Cells.in_space (g.F.FarEnds.contact_at c.args.far.now) set (admin_rule_matches c.rule-item.result.now))
           (sym c.in_ok-set.ensures) c.in_ok-found.ensures;
     })

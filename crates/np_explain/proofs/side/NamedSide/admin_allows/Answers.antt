@@ -1,4 +1,5 @@
-use Rattle.std.proofs.Common.{◌<◌, length, rules}
+use Rattle.std.proofs.Common.{◌<◌, length, rules, ap, ◌∙◌}
+use Rattle.np_rules.specs.Prelude.{is_allow}
 use Rattle.np_explain.proofs.SideLemmas.{action_at, actions_within, keeps}
 use Rattle.np_explain.proofs.side.NamedSide.admin_allows.Goals as goal
 
@@ -13,4 +14,4 @@ offset_bounds-items-place c = let within : c.args.place < length c.items.result.
     (keeps c.self.invariant.names c.self.view_is) c.args.place c.items.result.now c.items.ensures c.requires in search rules
 
 pub returns : goal.returns
-returns c = λ placed is. c.is_allow.ensures placed.rule.action (action_at (keeps c.self.invariant.names c.self.view_is) c.args.place c.items.result.now _ c.items.ensures placed is)
+returns c = λ placed is. c.is_allow.ensures ∙ ap is_allow (action_at (keeps c.self.invariant.names c.self.view_is) c.args.place c.items.result.now _ c.items.ensures placed is)
