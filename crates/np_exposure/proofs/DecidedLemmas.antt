@@ -113,7 +113,7 @@ step-at asked left rest state next aside is step at = by aside step
     by (Some put) both = ap (λ (s : List Choices). are_at s rest) both.3 ∙ all_at-narrowed (not put.wanted) asked state rest behind
 
 pub aside-at : (asked : SidedRequirement) (left rest : List SidedRequirement) (state next : List Choices) (aside : Option Aside) (put : Aside) → left ≡ asked ∷ rest → aside ≡ Some put →
-    IsStepTo asked state next aside → are_at state left ≡ true → are_at put.left.state.items rest ≡ true
+    IsStepTo asked state next aside → are_at state left ≡ true → are_at put.case.state.items rest ≡ true
 aside-at asked left rest state next aside put is some step at =
     let both = subst (IsStepTo asked state next) some step in
     let behind = (and_parts (is_at state asked) (are_at state rest) (ap (are_at state) (sym is) ∙ at)).1 in

@@ -9,7 +9,7 @@ use Rattle.std.proofs.lemmas.List.{take_all}
 use Rattle.std.proofs.Math.Bool.{or-false, or_assoc}
 use Rattle.np_base.proofs.Bools.{or-last}
 use Rattle.np_conns.specs.Prelude.{has_spot}
-use Rattle.np_exposure.specs.Prelude.{Aside, Choices, IsChosen, IsRight, IsSettled, IsStepTo, IsWitness, Left, OpenRule, OpenRules, PermitSame, PortSpot, Side, SidedRequirement, StandForAll, Stranger, labels_at, narrowed, permits, rule_matches, same_side, suits}
+use Rattle.np_exposure.specs.Prelude.{Aside, Case, Choices, IsChosen, IsRight, IsSettled, IsStepTo, IsWitness, OpenRule, OpenRules, PermitSame, PortSpot, Side, SidedRequirement, StandForAll, Stranger, labels_at, narrowed, permits, rule_matches, same_side, suits}
 use Rattle.np_exposure.proofs.ListLemmas.{All-at, list_all-at, list_any-at}
 use Rattle.np_exposure.proofs.SameLemmas.{same_side-equal}
 use Rattle.np_labels.specs.Prelude.{value_of}
@@ -144,30 +144,30 @@ stand-next side rules asked state next None step stand = stand-narrowed side rul
 stand-next side rules asked state next (Some put) step stand = stand-narrowed side rules (not put.wanted) asked state next step.3 stand
 
 stand-aside : (side : PodSide) (rules : OpenRules) (asked : SidedRequirement) (state next : List Choices) (aside : Option Aside) (put : Aside) → aside ≡ Some put
-    → IsStepTo asked state next aside → StandForAll side state rules → StandForAll side put.left.state.items rules
+    → IsStepTo asked state next aside → StandForAll side state rules → StandForAll side put.case.state.items rules
 stand-aside side rules asked state next aside put some step stand =
     let forked = subst (IsStepTo asked state next) some step in
-    stand-narrowed side rules put.wanted asked state put.left.state.items forked.2 stand
+    stand-narrowed side rules put.wanted asked state put.case.state.items forked.2 stand
 
 -- so do rules that permit the witnesses the same
-stand-same : (side : PodSide) (rules : OpenRules) (left : Left) (namespace : List ℕ) → namespace ≡ (near_pod side).namespace → PermitSame namespace rules left
-    → StandForAll side left.state.items rules → StandForAll side left.state.items left.net
-stand-same side rules left namespace named same stand s witness spot within =
-    ap (λ (name : List ℕ). permits name left.net s spot) (sym named)
+stand-same : (side : PodSide) (rules : OpenRules) (case : Case) (namespace : List ℕ) → namespace ≡ (near_pod side).namespace → PermitSame namespace rules case
+    → StandForAll side case.state.items rules → StandForAll side case.state.items case.net
+stand-same side rules case namespace named same stand s witness spot within =
+    ap (λ (name : List ℕ). permits name case.net s spot) (sym named)
     ∙ same s witness spot
     ∙ ap (λ (name : List ℕ). permits name rules s spot) named
     ∙ stand s witness spot within
 
 -- what is left behind a requirement stands for what stood before
-pub left-stands : (side : PodSide) (asked : SidedRequirement) (left next : Left) (aside : Option Aside) (namespace : List ℕ) → namespace ≡ (near_pod side).namespace
-    → IsStepTo asked left.state.items next.state.items aside → PermitSame namespace left.net next → StandForAll side left.state.items left.net
+pub case-stands : (side : PodSide) (asked : SidedRequirement) (case next : Case) (aside : Option Aside) (namespace : List ℕ) → namespace ≡ (near_pod side).namespace
+    → IsStepTo asked case.state.items next.state.items aside → PermitSame namespace case.net next → StandForAll side case.state.items case.net
     → StandForAll side next.state.items next.net
-left-stands side asked left next aside namespace named step same stand =
-    stand-same side left.net next namespace named same (stand-next side left.net asked left.state.items next.state.items aside step stand)
+case-stands side asked case next aside namespace named step same stand =
+    stand-same side case.net next namespace named same (stand-next side case.net asked case.state.items next.state.items aside step stand)
 
-pub aside-stands : (side : PodSide) (asked : SidedRequirement) (left next : Left) (aside : Option Aside) (put : Aside) (namespace : List ℕ) → aside ≡ Some put
-    → namespace ≡ (near_pod side).namespace → IsStepTo asked left.state.items next.state.items aside → IfSome aside (λ one. PermitSame namespace left.net one.left)
-    → StandForAll side left.state.items left.net → StandForAll side put.left.state.items put.left.net
-aside-stands side asked left next aside put namespace some named step same stand =
-    stand-same side left.net put.left namespace named (subst (λ (one : Option Aside). IfSome one (λ one. PermitSame namespace left.net one.left)) some same)
-    (stand-aside side left.net asked left.state.items next.state.items aside put some step stand)
+pub aside-stands : (side : PodSide) (asked : SidedRequirement) (case next : Case) (aside : Option Aside) (put : Aside) (namespace : List ℕ) → aside ≡ Some put
+    → namespace ≡ (near_pod side).namespace → IsStepTo asked case.state.items next.state.items aside → IfSome aside (λ one. PermitSame namespace case.net one.case)
+    → StandForAll side case.state.items case.net → StandForAll side put.case.state.items put.case.net
+aside-stands side asked case next aside put namespace some named step same stand =
+    stand-same side case.net put.case namespace named (subst (λ (one : Option Aside). IfSome one (λ one. PermitSame namespace case.net one.case)) some same)
+    (stand-aside side case.net asked case.state.items next.state.items aside put some step stand)

@@ -192,17 +192,17 @@ choice-of_not false made one other P is first second = subst (P true) (sym is) f
 
 module _ (asked : SidedRequirement) (state met unmet next : List Choices) (met_is : met ≡ narrowed true asked state) (unmet_is : unmet ≡ narrowed false asked state) where
   fork-states : (aside : Option Aside) → IsState state → can_be true asked state ≡ true → can_be false asked state ≡ true → IsFork met unmet next aside →
-      IsState next × IfSome aside (λ a. IsState a.left.state.items)
+      IsState next × IfSome aside (λ a. IsState a.case.state.items)
   fork-states None is can_meet can_miss forked = absurd forked
   fork-states (Some aside) is can_meet can_miss forked =
       let P : Bool → List Choices → Type 0 = λ wanted made. IsState made in
       let one : IsState met = subst IsState (sym met_is) (IsState-narrowed true asked state is can_meet) in
       let other : IsState unmet = subst IsState (sym unmet_is) (IsState-narrowed false asked state is can_miss) in
-      (choice-of_not aside.wanted next met unmet P forked.1 one other, choice-of aside.wanted aside.left.state.items met unmet P forked.0 one other)
+      (choice-of_not aside.wanted next met unmet P forked.1 one other, choice-of aside.wanted aside.case.state.items met unmet P forked.0 one other)
 
   -- the same, from the answers of two tests
   pub fork-states-by : (aside : Option Aside) (can_meet can_miss : Bool) → IsState state → can_meet ≡ can_be true asked state → can_miss ≡ can_be false asked state → (can_meet && can_miss) ≡ true →
-      IsFork met unmet next aside → IsState next × IfSome aside (λ a. IsState a.left.state.items)
+      IsFork met unmet next aside → IsState next × IfSome aside (λ a. IsState a.case.state.items)
   fork-states-by aside can_meet can_miss is meet miss both forked =
       let parts = and_parts can_meet can_miss both in
       fork-states aside is (sym meet ∙ parts.0) (sym miss ∙ parts.1) forked
@@ -216,7 +216,7 @@ fork-step asked state met unmet next (Some aside) can_meet can_miss met_is unmet
     let P : Bool → List Choices → Type 0 = λ wanted made. made ≡ narrowed wanted asked state in (
       sym meet ∙ parts.0,
       sym miss ∙ parts.1,
-      choice-of aside.wanted aside.left.state.items met unmet P forked.0 met_is unmet_is,
+      choice-of aside.wanted aside.case.state.items met unmet P forked.0 met_is unmet_is,
       choice-of_not aside.wanted next met unmet P forked.1 met_is unmet_is,
     )
 

@@ -40,7 +40,7 @@ module _ (side : PodSide) (asked : SidedRequirement) (rest : List SidedRequireme
       (subst (λ (s : List Choices). AreWalked side rest s rows) step.3 walked)
 
   -- else they are those of both, joined
-  walked-joined : (aside : Aside) (known others rows : List ExposureRow) → IsStepTo asked state next (Some aside) → AreWalked side rest aside.left.state.items known → AreWalked side rest next others →
+  walked-joined : (aside : Aside) (known others rows : List ExposureRow) → IsStepTo asked state next (Some aside) → AreWalked side rest aside.case.state.items known → AreWalked side rest next others →
       IsJoinedBy asked aside.wanted known others rows → AreWalked side (asked ∷ rest) state rows
   unfolding AreWalked
   walked-joined aside known others rows step first second joined =
@@ -62,7 +62,7 @@ module _ (side : PodSide) (asked : SidedRequirement) (left rest : List SidedRequ
       (walked-alone side asked rest state next rows (subst (IsStepTo asked state next) none step) walked)) fills
 
   pub filled-joined : (aside : Option Aside) (put : Aside) (waits : Pending) (more : List Pending) → aside ≡ Some put → IsStepTo asked state next aside → more ≡ pending ++ waits ∷ [] →
-      waits.asked.now ≡ asked → waits.wanted ≡ put.wanted → AreWalked side rest put.left.state.items waits.rows.items → IsFilled side more rest next All
+      waits.requirement.now ≡ asked → waits.wanted ≡ put.wanted → AreWalked side rest put.case.state.items waits.rows.items → IsFilled side more rest next All
   filled-joined aside put waits more some step pushed asked_is wanted_is known rows made walked fills =
       let last = Fills-last pending waits rows made (subst (λ (all : List Pending). Fills all rows made) pushed fills) in
       let joined = subst (λ (wanted : Bool). IsJoinedBy asked wanted waits.rows.items rows last.0) wanted_is

@@ -11,10 +11,10 @@ pub use Rattle.np_exposure.specs.Strangers.{IsExposure, exposes, is_hypothetical
 pub use Rattle.np_exposure.specs.Tree.{AreRowsAt, AreRowsOf, HasExposure, IsAssumed, IsJoined, IsPossible, always, apart, either, equal, never, with_first}
 unfoldable pub use Rattle.np_exposure.specs.Tree.{AreRows}
 pub use Rattle.np_exposure.specs.Types.{Absent, AdminPeer, AdminPolicy, AdminPort, AdminRule, BasePolicy, Direction, Egress, ExposureRow, Four, Ingress, MentionedKey, Namespace, NetPeer, NetPolicy, NetPort, NetRule, NoneOf, OneOf, Op, Pair, Pending, Pod, PortSpot, Present, Requirement, RuleConns, Selector, Side, SidedRequirement, Stranger}
-pub use Rattle.np_exposure.specs.steps.Types.{Aside, Left, OpenRule, OpenRules}
+pub use Rattle.np_exposure.specs.steps.Types.{Aside, Case, OpenRule, OpenRules}
 pub use Rattle.np_exposure.specs.Weight.{IsWeightFault, looks_at, patterns_at, patterns_on, product}
 unfoldable pub use Rattle.np_exposure.specs.Weight.{keys_on, values_at, weight}
-pub use Rattle.np_exposure.specs.steps.Left.{PermitSame}
+pub use Rattle.np_exposure.specs.steps.Case.{PermitSame}
 pub use Rattle.np_exposure.specs.steps.OnlyNamespace.{AreOfNamespace}
 pub use Rattle.np_exposure.specs.steps.Settled.{IsRight, IsSettled, StandFor, StandForAll, permits, rule_matches}
 pub use Rattle.np_exposure.specs.steps.States.{IsChosen, IsState, IsWitness, are_apart, are_at, as_wanted, can_be, is_apart, is_at, is_decided, is_made, is_named_at, narrowed, narrowed_at, suits}

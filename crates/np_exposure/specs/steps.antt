@@ -3,4 +3,4 @@ pub mod OnlyNamespace
 pub mod States
 pub mod Walks
 pub mod Settled
-pub mod Left
+pub mod Case

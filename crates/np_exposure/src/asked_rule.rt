@@ -95,8 +95,8 @@ pub(crate) fn asked_rules<'r>(
     ensures { IfOk result (λ made. made.items ≡ rules.now) }
 {
     let mut made = Vec::with_capacity(alloc, rules.len())?;
-    for kept in rules {
-        made.push(AskedRule::of(state, kept))?;
+    for rule in rules {
+        made.push(AskedRule::of(state, rule))?;
     }
     Ok(made)
 }

@@ -123,12 +123,12 @@ impl<'a> KeyChoices<'a> {
     }
 
     /// Whether some choice is as wanted: a requirement on it is met, or it is missed.
-    fn can_be(&self, asked: &SidedRequirement, wanted: bool) -> bool
-        ensures { result ≡ list_any (states.suits wanted asked.now self.now) self.now.found }
+    fn can_be(&self, requirement: &SidedRequirement, wanted: bool) -> bool
+        ensures { result ≡ list_any (states.suits wanted requirement.now self.now) self.now.found }
     {
-        let looks = asked.looks_at(self.side, self.key);
+        let looks = requirement.looks_at(self.side, self.key);
         for choice in &self.found {
-            if asked.suits(looks, *choice, wanted) {
+            if requirement.suits(looks, *choice, wanted) {
                 return true;
             }
         }
@@ -139,15 +139,15 @@ impl<'a> KeyChoices<'a> {
     fn narrowed(
         &self,
         alloc: Global,
-        asked: &SidedRequirement,
+        requirement: &SidedRequirement,
         wanted: bool,
     ) -> Result<KeyChoices<'a>, NoMemory>
-        ensures { IfOk result (λ made. made ≡ states.narrowed_at wanted asked.now self.now) }
+        ensures { IfOk result (λ made. made ≡ states.narrowed_at wanted requirement.now self.now) }
     {
-        let looks = asked.looks_at(self.side, self.key);
+        let looks = requirement.looks_at(self.side, self.key);
         let mut found = Vec::new(alloc);
         for choice in &self.found {
-            if asked.suits(looks, *choice, wanted) {
+            if requirement.suits(looks, *choice, wanted) {
                 found.push(*choice)?;
             }
         }
@@ -245,24 +245,26 @@ pub(crate) fn is_decided(state: &[KeyChoices<'_>]) -> bool
 }
 
 /// Whether some choice at each key is as wanted: a requirement is met, or it is missed.
-pub(crate) fn can_be(state: &[KeyChoices<'_>], asked: &SidedRequirement, wanted: bool) -> bool
-    ensures { result ≡ states.can_be wanted asked.now state.now }
+pub(crate) fn can_be(state: &[KeyChoices<'_>], requirement: &SidedRequirement, wanted: bool) -> bool
+    ensures { result ≡ states.can_be wanted requirement.now state.now }
 {
-    state.iter().all(|choices| choices.can_be(asked, wanted))
+    state
+        .iter()
+        .all(|choices| choices.can_be(requirement, wanted))
 }
 
 /// The choices at each key that are as wanted.
 pub(crate) fn narrowed<'a>(
     alloc: Global,
     state: &[KeyChoices<'a>],
-    asked: &SidedRequirement,
+    requirement: &SidedRequirement,
     wanted: bool,
 ) -> Result<Vec<KeyChoices<'a>>, NoMemory>
-    ensures { IfOk result (λ made. made.items ≡ states.narrowed wanted asked.now state.now) }
+    ensures { IfOk result (λ made. made.items ≡ states.narrowed wanted requirement.now state.now) }
 {
     let mut made = Vec::new(alloc);
     for choices in state {
-        made.push(choices.narrowed(alloc, asked, wanted)?)?;
+        made.push(choices.narrowed(alloc, requirement, wanted)?)?;
     }
     Ok(made)
 }

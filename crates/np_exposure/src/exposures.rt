@@ -13,7 +13,7 @@ use crate::open_row::finished;
 use crate::open_rules::OpenRules;
 use crate::requirements::each_once;
 use crate::sided_requirement::SidedRequirement;
-use crate::step::Left;
+use crate::step::Case;
 use crate::walk::rows_of;
 use crate::weights::weight_of;
 use np_base::{NoMemory, Seq};
@@ -62,9 +62,9 @@ fn rows_of_mentions(
         AreWalked (side_of estate.now pod direction) (each_once mentions.items) (choices_at_first mentions.items) rows) }
 {
     let labels = labels_of(alloc, &mentions)?;
-    let asked = each_once(alloc, mentions)?;
+    let requirements = each_once(alloc, mentions)?;
     let rules = StrangerRules::of(alloc, estate, pod, direction)?;
-    rows_of_labels(alloc, &rules, &labels, &asked)
+    rows_of_labels(alloc, &rules, &labels, &requirements)
 }
 
 // The rows of requirements, with all choices at the keys that these look at.
@@ -72,15 +72,15 @@ fn rows_of_labels(
     alloc: Global,
     rules: &StrangerRules<'_>,
     labels: &[MentionedKey],
-    asked: &[SidedRequirement],
+    requirements: &[SidedRequirement],
 ) -> Result<Seq<ExposureRow>, NoMemory>
     requires state { IsState (map choices_of labels.now) }
-    requires keys { IsTrue (are_at (map choices_of labels.now) asked.now) }
-    ensures { IfOk result (AreWalked rules.now asked.now (map choices_of labels.now)) }
+    requires keys { IsTrue (are_at (map choices_of labels.now) requirements.now) }
+    ensures { IfOk result (AreWalked rules.now requirements.now (map choices_of labels.now)) }
 {
     let state = all_choices(alloc, labels)?;
-    let kept = asked_rules(alloc, &state, rules.net())?;
-    rows_of_choices(alloc, rules, state, &kept, asked)
+    let net_rules = asked_rules(alloc, &state, rules.net())?;
+    rows_of_choices(alloc, rules, state, &net_rules, requirements)
 }
 
 // The rows of requirements, before any rule is settled.
@@ -88,16 +88,16 @@ fn rows_of_choices<'r>(
     alloc: Global,
     rules: &StrangerRules<'_>,
     state: Vec<KeyChoices<'_>>,
-    kept: &'r [AskedRule<'r>],
-    asked: &[SidedRequirement],
+    net_rules: &'r [AskedRule<'r>],
+    requirements: &[SidedRequirement],
 ) -> Result<Seq<ExposureRow>, NoMemory>
     requires state { IsState state.items }
-    requires keys { IsTrue (are_at state.items asked.now) }
-    requires net { IsNetOf rules.now kept.now }
-    ensures { IfOk result (AreWalked rules.now asked.now state.entry.items) }
+    requires keys { IsTrue (are_at state.items requirements.now) }
+    requires net { IsNetOf rules.now net_rules.now }
+    ensures { IfOk result (AreWalked rules.now requirements.now state.entry.items) }
 {
-    let net = OpenRules::of(alloc, rules, kept)?;
-    let mut left = Left { state, net };
-    let rows = rows_of(alloc, rules, asked, &mut left)?;
+    let net = OpenRules::of(alloc, rules, net_rules)?;
+    let mut case = Case { state, net };
+    let rows = rows_of(alloc, rules, requirements, &mut case)?;
     finished(alloc, rows)
 }

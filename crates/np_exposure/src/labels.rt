@@ -21,9 +21,9 @@ pub(crate) fn keys_on(
     ensures { IfOk result (λ made. made ≡ spec.keys_on side mentions.now) }
 {
     let mut keys = BTreeSet::new(alloc);
-    for asked in mentions {
-        if asked.side == side {
-            keys.insert(asked.requirement.key.copy()?)?;
+    for mention in mentions {
+        if mention.side == side {
+            keys.insert(mention.requirement.key.copy()?)?;
         }
     }
     in_order(alloc, keys)
@@ -40,9 +40,9 @@ pub(crate) fn values_at(
     ensures { IfOk result (λ made. made ≡ spec.values_at side key.now mentions.now) }
 {
     let mut values = BTreeSet::new(alloc);
-    for asked in mentions {
-        if asked.looks_at(side, key) {
-            add_all(&mut values, asked.requirement.values.items())?;
+    for mention in mentions {
+        if mention.looks_at(side, key) {
+            add_all(&mut values, mention.requirement.values.items())?;
         }
     }
     in_order(alloc, values)

@@ -14,7 +14,7 @@ use std::marker::Model;
 /// A requirement that is lent.
 #[derive(Drop)]
 struct Lent<'a> {
-    asked: &'a SidedRequirement,
+    requirement: &'a SidedRequirement,
 }
 
 impl<'a> Model for Lent<'a> {
@@ -22,12 +22,12 @@ impl<'a> Model for Lent<'a> {
 
     ghost Value = { SidedRequirement };
 
-    ghost view = { λ lent. lent.asked.now };
+    ghost view = { λ lent. lent.requirement.now };
 }
 
 impl<'a> Same for Lent<'a> {
     fn is_same(&self, other: &Lent<'a>) -> bool {
-        self.asked.is_same(other.asked)
+        self.requirement.is_same(other.requirement)
     }
 }
 
@@ -67,10 +67,10 @@ impl<'a> OpenRow<'a> {
     }
 
     // Puts a requirement before all others.
-    fn put_first(&mut self, asked: &'a SidedRequirement) -> Result<(), NoMemory>
-        ensures { OnOk result (self.new ≡ with_first asked.now self.old) }
+    fn put_first(&mut self, requirement: &'a SidedRequirement) -> Result<(), NoMemory>
+        ensures { OnOk result (self.new ≡ with_first requirement.now self.old) }
     {
-        self.backwards.push(Lent { asked })?;
+        self.backwards.push(Lent { requirement })?;
         Ok(())
     }
 
@@ -93,23 +93,23 @@ fn in_order(alloc: Global, lent: Vec<Lent<'_>>) -> Result<Seq<SidedRequirement>,
     let mut backwards = lent;
     let mut requirements = Seq::new(alloc);
     while let Some(lent) = backwards.pop() {
-        requirements.push(lent.asked.try_copy(alloc)?)?;
+        requirements.push(lent.requirement.try_copy(alloc)?)?;
     }
     Ok(requirements)
 }
 
 /// The rows of a requirement, from those where it is met and those where it is not. Equal lists are not kept apart.
 pub(crate) fn joined<'a>(
-    asked: &'a SidedRequirement,
+    requirement: &'a SidedRequirement,
     met: Vec<OpenRow<'a>>,
     unmet: Vec<OpenRow<'a>>,
 ) -> Result<Vec<OpenRow<'a>>, NoMemory>
-    ensures { IfOk result (λ made. IsJoined asked.now met.entry.items unmet.entry.items made.items) }
+    ensures { IfOk result (λ made. IsJoined requirement.now met.entry.items unmet.entry.items made.items) }
 {
     if are_same(&met, &unmet) {
         return Ok(met);
     }
-    let mut rows = all_with_first(asked, met)?;
+    let mut rows = all_with_first(requirement, met)?;
     let mut others = unmet;
     rows.append(&mut others)?;
     Ok(rows)
@@ -117,14 +117,14 @@ pub(crate) fn joined<'a>(
 
 // The rows with a requirement before all others.
 fn all_with_first<'a>(
-    asked: &'a SidedRequirement,
+    requirement: &'a SidedRequirement,
     rows: Vec<OpenRow<'a>>,
 ) -> Result<Vec<OpenRow<'a>>, NoMemory>
-    ensures { IfOk result (λ made. made.items ≡ map (with_first asked.now) rows.entry.items) }
+    ensures { IfOk result (λ made. made.items ≡ map (with_first requirement.now) rows.entry.items) }
 {
     let mut made = Vec::with_capacity(*rows.allocator(), rows.len())?;
     for mut row in rows {
-        row.put_first(asked)?;
+        row.put_first(requirement)?;
         made.push(row)?;
     }
     Ok(made)

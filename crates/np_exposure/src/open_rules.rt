@@ -45,13 +45,13 @@ impl<'r> OpenRules<'r> {
     pub(crate) fn of(
         alloc: Global,
         rules: &StrangerRules<'_>,
-        asked: &'r [AskedRule<'r>],
+        net_rules: &'r [AskedRule<'r>],
     ) -> Result<OpenRules<'r>, NoMemory>
-        requires { IsNetOf rules.now asked.now }
+        requires { IsNetOf rules.now net_rules.now }
         ensures { IfOk result (λ made. (s : Stranger) → StandFor rules.now made s) }
     {
-        let mut open = Vec::with_capacity(alloc, asked.len())?;
-        for kept in asked {
+        let mut open = Vec::with_capacity(alloc, net_rules.len())?;
+        for kept in net_rules {
             open.push(OpenRule { kept })?;
         }
         Ok(OpenRules {
@@ -68,12 +68,12 @@ impl<'r> OpenRules<'r> {
         alloc: Global,
         namespace: &str,
         state: &[KeyChoices<'_>],
-        asked: &SidedRequirement,
+        requirement: &SidedRequirement,
     ) -> Result<OpenRules<'r>, NoMemory>
         ensures { IfOk result (λ made. (s : Stranger) → IsWitness state.now s → (spot : PortSpot) →
             permits namespace.now made s spot ≡ permits namespace.now self.now s spot) }
     {
-        let narrowed = self.narrowed_by(state, asked);
+        let narrowed = self.narrowed_by(state, requirement);
         if can_settle(state) {
             return self.with_settled(alloc, namespace, state, narrowed);
         }
@@ -87,12 +87,12 @@ impl<'r> OpenRules<'r> {
         alloc: Global,
         namespace: &str,
         state: &[KeyChoices<'_>],
-        asked: &SidedRequirement,
+        requirement: &SidedRequirement,
     ) -> Result<(), NoMemory>
         ensures { OnOk result ((s : Stranger) → IsWitness state.now s → (spot : PortSpot) →
             permits namespace.now self.new s spot ≡ permits namespace.now self.old s spot) }
     {
-        let narrowed = self.narrowed_by(state, asked);
+        let narrowed = self.narrowed_by(state, requirement);
         if can_settle(state) {
             *self = self.with_settled(alloc, namespace, state, narrowed)?;
             return Ok(());

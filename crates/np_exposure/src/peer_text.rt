@@ -29,11 +29,11 @@ pub fn print_peer(alloc: Global, row: &ExposureRow) -> Result<Text, NoMemory>
 // Appends requirements, each after ` and `.
 fn push_others(text: &mut String, others: &[SidedRequirement]) -> Result<(), NoMemory>
     ensures { OnOk result (string_bytes text.new
-        ≡ string_bytes text.old ++ flat_map (λ asked. codes " and " ++ spec.requirement_text asked) others.now) }
+        ≡ string_bytes text.old ++ flat_map (λ requirement. codes " and " ++ spec.requirement_text requirement) others.now) }
 {
-    for asked in others {
+    for requirement in others {
         text.push_str(" and ")?;
-        push_requirement(text, asked)?;
+        push_requirement(text, requirement)?;
     }
     Ok(())
 }

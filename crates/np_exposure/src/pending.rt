@@ -9,7 +9,7 @@ use np_base::{NoMemory, Seq};
 /// The rows of one case of a requirement, until those of the other are known.
 #[derive(Drop)]
 pub(crate) struct Pending<'a> {
-    pub asked: &'a SidedRequirement,
+    pub requirement: &'a SidedRequirement,
     /// Whether it is the case that the requirement is met.
     pub wanted: bool,
     pub rows: Vec<OpenRow<'a>>,
@@ -19,12 +19,12 @@ impl<'a> Pending<'a> {
     // The rows of the requirement, with those of the other case.
     fn joined(self, others: Vec<OpenRow<'a>>) -> Result<Vec<OpenRow<'a>>, NoMemory>
         ensures { IfOk result (λ made.
-            IsJoinedBy self.entry.asked.now self.entry.wanted self.entry.rows.items others.entry.items made.items) }
+            IsJoinedBy self.entry.requirement.now self.entry.wanted self.entry.rows.items others.entry.items made.items) }
     {
         if self.wanted {
-            joined(self.asked, self.rows, others)
+            joined(self.requirement, self.rows, others)
         } else {
-            joined(self.asked, others, self.rows)
+            joined(self.requirement, others, self.rows)
         }
     }
 }

@@ -15,17 +15,17 @@ pub(crate) fn each_once(
     ensures { IfOk result (λ made. made.items ≡ each_once mentions.items) }
 {
     let mut made = Vec::new(alloc);
-    for asked in mentions {
-        if !is_known(&made, &asked) {
-            made.push(asked)?;
+    for mention in mentions {
+        if !is_known(&made, &mention) {
+            made.push(mention)?;
         }
     }
     Ok(made)
 }
 
 // Whether a requirement is the same as one of these.
-fn is_known(made: &[SidedRequirement], asked: &SidedRequirement) -> bool
-    ensures { result ≡ list_any (λ known. is_same known asked.now) made.now }
+fn is_known(made: &[SidedRequirement], mention: &SidedRequirement) -> bool
+    ensures { result ≡ list_any (λ known. is_same known mention.now) made.now }
 {
-    made.iter().any(|known| known.is_same(asked))
+    made.iter().any(|known| known.is_same(mention))
 }

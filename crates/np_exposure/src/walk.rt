@@ -8,7 +8,7 @@ use crate::open_row::OpenRow;
 use crate::open_rules::OpenRules;
 use crate::pending::{Pending, all_joined};
 use crate::sided_requirement::SidedRequirement;
-use crate::step::{Left, next_step};
+use crate::step::{Case, next_step};
 use crate::witness::stranger_of;
 use np_base::{NoMemory, Seq};
 use np_conns::ConnSet;
@@ -23,51 +23,54 @@ use std::alloc::Global;
 pub(crate) fn rows_of<'a>(
     alloc: Global,
     rules: &StrangerRules<'_>,
-    asked: &'a [SidedRequirement],
-    left: &mut Left<'_, '_>,
+    requirements: &'a [SidedRequirement],
+    case: &mut Case<'_, '_>,
 ) -> Result<Vec<OpenRow<'a>>, NoMemory>
-    requires state { IsState left.old.state.items }
-    requires keys { IsTrue (are_at left.old.state.items asked.now) }
-    requires net { StandForAll rules.now left.old.state.items left.old.net }
-    ensures { IfOk result (λ rows. AreWalked rules.now asked.now left.old.state.items rows.items) }
+    requires state { IsState case.old.state.items }
+    requires keys { IsTrue (are_at case.old.state.items requirements.now) }
+    requires net { StandForAll rules.now case.old.state.items case.old.net }
+    ensures { IfOk result (λ rows. AreWalked rules.now requirements.now case.old.state.items rows.items) }
 {
-    let mut more = still_asked(asked, &left.state);
+    let mut more = still_asked(requirements, &case.state);
     let mut pending = Seq::new(alloc);
     while let Some((first, rest)) = more.split_first() {
-        let aside = next_step(alloc, rules.namespace(), first, left)?;
-        more = still_asked(rest, &left.state);
+        let aside = next_step(alloc, rules.namespace(), first, case)?;
+        more = still_asked(rest, &case.state);
         if let Some(mut aside) = aside {
-            let rows = rows_of(alloc, rules, rest, &mut aside.left)?;
+            let rows = rows_of(alloc, rules, rest, &mut aside.case)?;
             pending.push(Pending {
-                asked: first,
+                requirement: first,
                 wanted: aside.wanted,
                 rows,
             })?;
         }
     }
-    let last = leaf(alloc, rules, left)?;
+    let last = leaf(alloc, rules, case)?;
     all_joined(pending, last)
 }
 
 // The requirements that are still to be asked: none where one choice is left at each key.
-fn still_asked<'a>(left: &'a [SidedRequirement], state: &[KeyChoices<'_>]) -> &'a [SidedRequirement]
-    ensures { result.now ≡ walks.still_asked left.now state.now }
+fn still_asked<'a>(
+    requirements: &'a [SidedRequirement],
+    state: &[KeyChoices<'_>],
+) -> &'a [SidedRequirement]
+    ensures { result.now ≡ walks.still_asked requirements.now state.now }
 {
-    if is_decided(state) { &[] } else { left }
+    if is_decided(state) { &[] } else { requirements }
 }
 
 // One row of the exposure of a hypothetical pod with labels among the choices.
 fn leaf<'a>(
     alloc: Global,
     rules: &StrangerRules<'_>,
-    left: &Left<'_, '_>,
+    case: &Case<'_, '_>,
 ) -> Result<Vec<OpenRow<'a>>, NoMemory>
-    requires state { IsState left.now.state.items }
-    requires net { StandForAll rules.now left.now.state.items left.now.net }
-    ensures { IfOk result (λ rows. IsLeaf rules.now left.now.state.items rows.items) }
+    requires state { IsState case.now.state.items }
+    requires net { StandForAll rules.now case.now.state.items case.now.net }
+    ensures { IfOk result (λ rows. IsLeaf rules.now case.now.state.items rows.items) }
 {
-    let stranger = stranger_of(alloc, &left.state)?;
-    let conns = exposed(alloc, rules, &left.net, &stranger)?;
+    let stranger = stranger_of(alloc, &case.state)?;
+    let conns = exposed(alloc, rules, &case.net, &stranger)?;
     OpenRow::alone(alloc, conns)
 }
 

@@ -164,12 +164,12 @@ fn left_of(held: &[Held], begun: Begun) -> &[u8]
 }
 
 // Copies the first bytes that are left into the buffer, at most `most`, and answers how many.
-fn hand_out(left: &[u8], into: &mut [u8], most: usize) -> usize
-    ensures count { result ≡ min (min (length left.now) (length into.old)) most }
-    ensures bytes { take result into.new ≡ take result left.now }
+fn hand_out(rest: &[u8], into: &mut [u8], most: usize) -> usize
+    ensures count { result ≡ min (min (length rest.now) (length into.old)) most }
+    ensures bytes { take result into.new ≡ take result rest.now }
 {
-    let n = left.len().min(into.len()).min(most);
-    into[..n].copy_from_slice(&left[..n]);
+    let n = rest.len().min(into.len()).min(most);
+    into[..n].copy_from_slice(&rest[..n]);
     n
 }
 

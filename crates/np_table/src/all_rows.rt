@@ -34,7 +34,7 @@ pub struct Rows<'a> {
     place: u64,
     end: u64,
     // What is known of the rows from the source at that place.
-    kept: RowCache,
+    cache: RowCache,
     // What is known of the rows of addresses.
     known: KnownAddresses<'a>,
     // Rows that were made and not given, the last one first.
@@ -50,7 +50,7 @@ impl<'a> Drop for Rows<'a> {
             reach: _reach,
             place: _place,
             end: _end,
-            kept: _kept,
+            cache: _cache,
             known: _known,
             ready: _ready,
         } = self;
@@ -68,10 +68,10 @@ impl<'a> Model for Rows<'a> {
 
     ghost view = { λ r. record {
       rows = reverse r.ready.items ++ rows_from (estate_table r.sides.lists) r.place;
-      due = due_from r.sides.lists (folding_of r.sides.lists) r.place r.kept;
+      due = due_from r.sides.lists (folding_of r.sides.lists) r.place r.cache;
     } };
 
-    ghost invariant = { λ r. IsUnderWay r.sides.lists r.place r.end r.kept × IsKindReach r.sides.lists r.reach
+    ghost invariant = { λ r. IsUnderWay r.sides.lists r.place r.end r.cache × IsKindReach r.sides.lists r.reach
         × (r.known ≡ r.sides.lists) };
 }
 
@@ -90,7 +90,7 @@ impl<'a> Rows<'a> {
             reach: KindReach::nothing(alloc),
             place: 0,
             end,
-            kept: RowCache::nothing(alloc),
+            cache: RowCache::nothing(alloc),
             known: KnownAddresses::new(alloc, folded),
             ready: Vec::new(alloc),
         }
@@ -116,7 +116,7 @@ impl<'a> Rows<'a> {
                 &mut self.sides,
                 &self.reach,
                 self.place,
-                &mut self.kept,
+                &mut self.cache,
                 &mut self.known,
                 steps,
             )?;
@@ -190,26 +190,26 @@ fn rows_at<L: Ledger>(
     sides: &mut Sides<'_>,
     reach: &KindReach,
     place: u64,
-    kept: &mut RowCache,
+    cache: &mut RowCache,
     known: &mut KnownAddresses<'_>,
     steps: &mut Steps<L>,
 ) -> Result<Seq<Row>, NoMemory>
     requires reach { IsKindReach sides.old.lists reach.now }
     requires place { place < spec.place_count (number_of_workloads sides.old.lists) }
-    requires few { length kept.old ≤ (folding_of sides.old.lists).kind_count }
-    requires kept { IsCached sides.old.lists (folding_of sides.old.lists) (place / number_of_workloads sides.old.lists) kept.old }
+    requires few { length cache.old ≤ (folding_of sides.old.lists).kind_count }
+    requires kept { IsCached sides.old.lists (folding_of sides.old.lists) (place / number_of_workloads sides.old.lists) cache.old }
     requires known { known.old ≡ sides.old.lists }
     ensures rows { IfOk result (λ made. made ≡ spec.rows_at (estate_table sides.old.lists) place) }
     ensures lists { sides.new.lists ≡ sides.old.lists }
     ensures known { known.new ≡ known.old }
-    ensures few { length kept.new ≤ (folding_of sides.old.lists).kind_count }
+    ensures few { length cache.new ≤ (folding_of sides.old.lists).kind_count }
     ensures kept { let lists = sides.old.lists in
-        OnOk result (IsCached lists (folding_of lists) ((place + 1) / number_of_workloads lists) kept.new) }
+        OnOk result (IsCached lists (folding_of lists) ((place + 1) / number_of_workloads lists) cache.new) }
     ensures kept_on_err { let lists = sides.old.lists in
-        OnErr result (IsCached lists (folding_of lists) (place / number_of_workloads lists) kept.new) }
-    ensures counted { OnOk result (steps.new + spec.due_from sides.old.lists (folding_of sides.old.lists) (place + 1) kept.new
-        ≤ steps.old + spec.due_from sides.old.lists (folding_of sides.old.lists) place kept.old) }
-    ensures most { OnErr result (steps.new ≤ steps.old + spec.due_from sides.old.lists (folding_of sides.old.lists) place kept.old) }
+        OnErr result (IsCached lists (folding_of lists) (place / number_of_workloads lists) cache.new) }
+    ensures counted { OnOk result (steps.new + spec.due_from sides.old.lists (folding_of sides.old.lists) (place + 1) cache.new
+        ≤ steps.old + spec.due_from sides.old.lists (folding_of sides.old.lists) place cache.old) }
+    ensures most { OnErr result (steps.new ≤ steps.old + spec.due_from sides.old.lists (folding_of sides.old.lists) place cache.old) }
     ensures least { steps.old ≤ steps.new }
 {
     let count = u64::from(sides.folded().workloads().count());
@@ -222,9 +222,9 @@ fn rows_at<L: Ledger>(
         source: (place / count) as u32,
         destination: (place % count) as u32,
     };
-    let rows = rows_by_kind(alloc, sides, reach, pair, kept, steps)?;
+    let rows = rows_by_kind(alloc, sides, reach, pair, cache, steps)?;
     if place % count + 1 == count {
-        *kept = RowCache::nothing(alloc);
+        *cache = RowCache::nothing(alloc);
     }
     Ok(rows)
 }

@@ -107,12 +107,12 @@ fn rows_with(alloc: Global, key: &RowKey, conns: &[CachedConns]) -> Result<Seq<R
 fn conns_of_rows(alloc: Global, rows: &[Row]) -> Result<Seq<CachedConns>, NoMemory>
     ensures { IfOk result (λ made. made ≡ map spec.cached_of rows.now) }
 {
-    let mut kept = Seq::new(alloc);
+    let mut made = Seq::new(alloc);
     for row in rows {
-        kept.push(CachedConns {
+        made.push(CachedConns {
             family: row.family,
             conns: row.conns.copy()?,
         })?;
     }
-    Ok(kept)
+    Ok(made)
 }

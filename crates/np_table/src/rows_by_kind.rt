@@ -37,22 +37,22 @@ pub(crate) fn rows_by_kind<L: Ledger>(
     sides: &mut Sides<'_>,
     reach: &KindReach,
     pair: WorkloadPair,
-    kept: &mut RowCache,
+    cache: &mut RowCache,
     steps: &mut Steps<L>,
 ) -> Result<Seq<Row>, NoMemory>
     requires reach { IsKindReach sides.old.lists reach.now }
     requires source { IsWorkload sides.old.lists pair.source }
     requires destination { IsWorkload sides.old.lists pair.destination }
-    requires few { length kept.old ≤ (folding_of sides.old.lists).kind_count }
-    requires kept { IsCached sides.old.lists (folding_of sides.old.lists) pair.source kept.old }
+    requires few { length cache.old ≤ (folding_of sides.old.lists).kind_count }
+    requires kept { IsCached sides.old.lists (folding_of sides.old.lists) pair.source cache.old }
     ensures rows { IfOk result (λ made. made ≡ spec.pair_rows (estate_table sides.old.lists) pair.source pair.destination) }
     ensures lists { sides.new.lists ≡ sides.old.lists }
-    ensures few { length kept.new ≤ (folding_of sides.old.lists).kind_count }
-    ensures kept { IsCached sides.old.lists (folding_of sides.old.lists) pair.source kept.new }
+    ensures few { length cache.new ≤ (folding_of sides.old.lists).kind_count }
+    ensures kept { IsCached sides.old.lists (folding_of sides.old.lists) pair.source cache.new }
     ensures least { steps.old ≤ steps.new }
-    ensures counted { OnOk result (steps.new + due_for_kinds sides.old.lists (folding_of sides.old.lists) kept.new
-        ≤ steps.old + due_for_kinds sides.old.lists (folding_of sides.old.lists) kept.old) }
-    ensures most { OnErr result (steps.new ≤ steps.old + due_for_kinds sides.old.lists (folding_of sides.old.lists) kept.old) }
+    ensures counted { OnOk result (steps.new + due_for_kinds sides.old.lists (folding_of sides.old.lists) cache.new
+        ≤ steps.old + due_for_kinds sides.old.lists (folding_of sides.old.lists) cache.old) }
+    ensures most { OnErr result (steps.new ≤ steps.old + due_for_kinds sides.old.lists (folding_of sides.old.lists) cache.old) }
 {
     let folded = sides.folded();
     let workloads = folded.workloads();
@@ -64,11 +64,11 @@ pub(crate) fn rows_by_kind<L: Ledger>(
     }
     let kind = workloads.kind_of(pair.destination);
     let key = pair_key(pair.source, pair.destination);
-    if let Some(rows) = kept.rows(alloc, kind, &key)? {
+    if let Some(rows) = cache.rows(alloc, kind, &key)? {
         return Ok(rows);
     }
     let rows = rows_of_kinds(alloc, sides, pair, steps)?;
-    kept.keep(alloc, kind, workloads.kinds(), rows.items())?;
+    cache.keep(alloc, kind, workloads.kinds(), rows.items())?;
     Ok(rows)
 }
 

@@ -2,4 +2,4 @@
 pub use Rattle.np_exposure.specs.declared.open_rules.OpenRule.{OpenRule}
 pub use Rattle.np_exposure.specs.declared.open_rules.OpenRules.{OpenRules}
 pub use Rattle.np_exposure.specs.declared.step.Aside.{Aside}
-pub use Rattle.np_exposure.specs.declared.step.Left.{Left}
+pub use Rattle.np_exposure.specs.declared.step.Case.{Case}

@@ -41,12 +41,12 @@ abbrev pub IsStepTo : SidedRequirement → List Choices → List Choices → Opt
 IsStepTo asked state next None =
     (wanted : Bool) × (can_be wanted asked state ≡ true) × (can_be (not wanted) asked state ≡ false) × (next ≡ narrowed wanted asked state)
 IsStepTo asked state next (Some aside) =
-    (can_be true asked state ≡ true) × (can_be false asked state ≡ true) × (aside.left.state.items ≡ narrowed aside.wanted asked state) × (next ≡ narrowed (not aside.wanted) asked state)
+    (can_be true asked state ≡ true) × (can_be false asked state ≡ true) × (aside.case.state.items ≡ narrowed aside.wanted asked state) × (next ≡ narrowed (not aside.wanted) asked state)
 
 -- one case is put aside, and the other goes on
 abbrev pub IsFork : List Choices → List Choices → List Choices → Option Aside → Type 0
 IsFork met unmet next None = ⊥
-IsFork met unmet next (Some aside) = (aside.left.state.items ≡ (if aside.wanted then met else unmet)) × (next ≡ (if aside.wanted then unmet else met))
+IsFork met unmet next (Some aside) = (aside.case.state.items ≡ (if aside.wanted then met else unmet)) × (next ≡ (if aside.wanted then unmet else met))
 
 -- ---- rows that wait for those of the other case
 
@@ -59,4 +59,4 @@ IsJoinedBy asked false known others rows = IsJoined asked others known rows
 abbrev pub Fills : List Pending → List ExposureRow → List ExposureRow → Type 0
 Fills [] rows made = made ≡ rows
 Fills (pending ∷ others) rows made =
-    (inner : List ExposureRow) × Fills others rows inner × IsJoinedBy pending.asked.now pending.wanted pending.rows.items inner made
+    (inner : List ExposureRow) × Fills others rows inner × IsJoinedBy pending.requirement.now pending.wanted pending.rows.items inner made

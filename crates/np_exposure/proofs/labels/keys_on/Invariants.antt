@@ -6,6 +6,6 @@ use Rattle.np_exposure.specs.Prelude.{keys_on, same_side}
 use Rattle.np_exposure.proofs.labels.keys_on.Given as goal
 
 -- with the keys of the requirements that are left they are all
-abbrev pub invariant-loop-asked : goal.invariant-loop-asked
-invariant-loop-asked l =
-    fold (insert_key (slice_cmp nat_cmp)) l.keys.keys (map (λ asked. asked.requirement.key) (filter (λ asked. same_side asked.side l.side) (drop l.asked-index l.mentions))) ≡ keys_on l.side l.mentions
+abbrev pub invariant-loop-mention : goal.invariant-loop-mention
+invariant-loop-mention l =
+    fold (insert_key (slice_cmp nat_cmp)) l.keys.keys (map (λ one. one.requirement.key) (filter (λ one. same_side one.side l.side) (drop l.mention-index l.mentions))) ≡ keys_on l.side l.mentions

@@ -6,7 +6,7 @@ use Rattle.np_exposure.specs.Prelude.{looks_at, values_at}
 use Rattle.np_exposure.proofs.labels.values_at.Given as goal
 
 -- with the values of the requirements that are left they are all
-abbrev pub invariant-loop-asked : goal.invariant-loop-asked
-invariant-loop-asked l =
-    fold (insert_key (slice_cmp nat_cmp)) l.values.keys (flat_map (λ asked. asked.requirement.values) (filter (looks_at l.side l.key) (drop l.asked-index l.mentions)))
+abbrev pub invariant-loop-mention : goal.invariant-loop-mention
+invariant-loop-mention l =
+    fold (insert_key (slice_cmp nat_cmp)) l.values.keys (flat_map (λ asked. asked.requirement.values) (filter (looks_at l.side l.key) (drop l.mention-index l.mentions)))
     ≡ values_at l.side l.key l.mentions

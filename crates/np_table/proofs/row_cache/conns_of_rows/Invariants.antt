@@ -4,4 +4,4 @@ use Rattle.np_table.specs.Prelude.{cached_of}
 
 -- what the rows so far have
 abbrev pub invariant-loop-row : goal.invariant-loop-row
-invariant-loop-row l = l.kept ≡ map cached_of (take l.row-index l.rows)
+invariant-loop-row l = l.made ≡ map cached_of (take l.row-index l.rows)

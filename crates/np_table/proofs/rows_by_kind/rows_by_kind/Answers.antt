@@ -33,7 +33,7 @@ returns-in-Some-clause-rows g c =
     let kind : c.kind_of-kind.result ≡ slice_index (folding_of c.args.sides.now.lists).kinds c.args.pair.destination = c.kind_of-kind.ensures ∙ ap
     (λ (f : Folding). slice_index f.kinds c.args.pair.destination) folded in
     let is = rw (c.pair_key-key.ensures, kind) at c.in_ok-rows.ensures in
-    rows-kept c.args.sides.now.lists (folding_of c.args.sides.now.lists) c.args.pair.source c.args.pair.destination c.args.kept.now c.in-Some.rows c.requires.source c.requires.destination alone
+    rows-kept c.args.sides.now.lists (folding_of c.args.sides.now.lists) c.args.pair.source c.args.pair.destination c.args.cache.now c.in-Some.rows c.requires.source c.requires.destination alone
     c.requires.kept (sym c.in-Some.is ∙ is)
 
 pub rows_of_kinds-requires-clause-apart : goal.rows_of_kinds-requires-clause-apart
@@ -46,11 +46,11 @@ returns-in_err-rows-2-clause-most g c =
     let folded = c.workloads-workloads.ensures.value ∙ ap folding_of c.folded-folded.ensures in
     let kind : c.kind_of-kind.result ≡ slice_index (folding_of c.args.sides.now.lists).kinds c.args.pair.destination = c.kind_of-kind.ensures ∙ ap
     (λ (f : Folding). slice_index f.kinds c.args.pair.destination) folded in
-    let none : cached_at c.args.kept.now c.kind_of-kind.result ≡ None = none_kept _ _ (sym c.in_default.is ∙ c.in_ok-rows.ensures) in
+    let none : cached_at c.args.cache.now c.kind_of-kind.result ≡ None = none_kept _ _ (sym c.in_default.is ∙ c.in_ok-rows.ensures) in
     let within : c.kind_of-kind.result < (folding_of c.args.sides.now.lists).kind_count = rw kind
     (kind-within c.args.sides.now.lists (folding_of c.args.sides.now.lists) c.args.pair.destination refl c.requires.destination) in
     OnErr-from c.from_residual-in_err-rows-2.result _ (pair-due c.args.sides.now.lists
-    (folding_of c.args.sides.now.lists) c.args.steps.now c.rows_of_kinds.new.steps c.kind_of-kind.result c.args.kept.now within c.requires.few none c.rows_of_kinds.ensures.most)
+    (folding_of c.args.sides.now.lists) c.args.steps.now c.rows_of_kinds.new.steps c.kind_of-kind.result c.args.cache.now within c.requires.few none c.rows_of_kinds.ensures.most)
 
 pub keep-requires-clause-kind : goal.keep-requires-clause-kind
 keep-requires-clause-kind g c =
@@ -59,18 +59,18 @@ keep-requires-clause-kind g c =
 
 pub returns-in_err-keep-clause-kept : goal.returns-in_err-keep-clause-kept
 returns-in_err-keep-clause-kept g c =
-    IsCached-same c.args.sides.now.lists (folding_of c.args.sides.now.lists) c.args.pair.source c.args.kept.now c.keep.new.self c.requires.kept c.in_err-keep.ensures.err
+    IsCached-same c.args.sides.now.lists (folding_of c.args.sides.now.lists) c.args.pair.source c.args.cache.now c.keep.new.self c.requires.kept c.in_err-keep.ensures.err
 
 pub returns-in_err-keep-clause-most : goal.returns-in_err-keep-clause-most
 returns-in_err-keep-clause-most g c =
     let folded = c.workloads-workloads.ensures.value ∙ ap folding_of c.folded-folded.ensures in
     let kind : c.kind_of-kind.result ≡ slice_index (folding_of c.args.sides.now.lists).kinds c.args.pair.destination = c.kind_of-kind.ensures ∙ ap
     (λ (f : Folding). slice_index f.kinds c.args.pair.destination) folded in
-    let none : cached_at c.args.kept.now c.kind_of-kind.result ≡ None = none_kept _ _ (sym c.in_default.is ∙ c.in_ok-rows.ensures) in
+    let none : cached_at c.args.cache.now c.kind_of-kind.result ≡ None = none_kept _ _ (sym c.in_default.is ∙ c.in_ok-rows.ensures) in
     let within : c.kind_of-kind.result < (folding_of c.args.sides.now.lists).kind_count = rw kind
     (kind-within c.args.sides.now.lists (folding_of c.args.sides.now.lists) c.args.pair.destination refl c.requires.destination) in
     OnErr-from c.from_residual-in_err-keep.result _ (pair-due c.args.sides.now.lists
-    (folding_of c.args.sides.now.lists) c.args.steps.now c.rows_of_kinds.new.steps c.kind_of-kind.result c.args.kept.now within c.requires.few none c.rows_of_kinds.ensures.most)
+    (folding_of c.args.sides.now.lists) c.args.steps.now c.rows_of_kinds.new.steps c.kind_of-kind.result c.args.cache.now within c.requires.few none c.rows_of_kinds.ensures.most)
 
 pub returns-clause-kept : goal.returns-clause-kept
 returns-clause-kept g c =
@@ -79,7 +79,7 @@ returns-clause-kept g c =
     let kind : c.kind_of-kind.result ≡ slice_index (folding_of c.args.sides.now.lists).kinds c.args.pair.destination = c.kind_of-kind.ensures ∙ ap
     (λ (f : Folding). slice_index f.kinds c.args.pair.destination) folded in
     let also = rw (kind, c.items.ensures) at c.in_ok-keep.ensures.also in
-    IsCached-also c.args.sides.now.lists (folding_of c.args.sides.now.lists) c.args.pair.source c.args.pair.destination c.args.kept.now c.keep.new.self c.in_ok-rows-2.rows refl
+    IsCached-also c.args.sides.now.lists (folding_of c.args.sides.now.lists) c.args.pair.source c.args.pair.destination c.args.cache.now c.keep.new.self c.in_ok-rows-2.rows refl
     (subst IsLawful c.folded-folded.ensures c.workloads-workloads.ensures.lawful) c.requires.destination alone c.in_ok-rows-2.ensures.rows c.requires.kept also
 
 pub returns-clause-counted : goal.returns-clause-counted
@@ -87,8 +87,8 @@ returns-clause-counted g c =
     let folded = c.workloads-workloads.ensures.value ∙ ap folding_of c.folded-folded.ensures in
     let kind : c.kind_of-kind.result ≡ slice_index (folding_of c.args.sides.now.lists).kinds c.args.pair.destination = c.kind_of-kind.ensures ∙ ap
     (λ (f : Folding). slice_index f.kinds c.args.pair.destination) folded in
-    let none : cached_at c.args.kept.now c.kind_of-kind.result ≡ None = none_kept _ _ (sym c.in_default.is ∙ c.in_ok-rows.ensures) in
+    let none : cached_at c.args.cache.now c.kind_of-kind.result ≡ None = none_kept _ _ (sym c.in_default.is ∙ c.in_ok-rows.ensures) in
     let within : c.kind_of-kind.result < (folding_of c.args.sides.now.lists).kind_count = rw kind
     (kind-within c.args.sides.now.lists (folding_of c.args.sides.now.lists) c.args.pair.destination refl c.requires.destination) in
-    pair-counted c.args.sides.now.lists (folding_of c.args.sides.now.lists) c.args.steps.now c.rows_of_kinds.new.steps c.kind_of-kind.result c.args.kept.now c.keep.new.self within c.requires.few none
+    pair-counted c.args.sides.now.lists (folding_of c.args.sides.now.lists) c.args.steps.now c.rows_of_kinds.new.steps c.kind_of-kind.result c.args.cache.now c.keep.new.self within c.requires.few none
     (c.in_ok-keep.ensures.count none) c.rows_of_kinds.ensures.most

@@ -6,7 +6,7 @@ use Rattle.np_exposure.proofs.choices.KeyChoices.can_be.Goals as goal
 
 pub returns-then-suits : goal.returns-then-suits
 returns-then-suits c =
-    any-mapped (suits c.args.wanted c.args.asked.now c.args.self.now) (option_map (λ value. value.now)) c.deref-choice-items.result.now c.args.self.now.found c.loop-choice.choice-index None
+    any-mapped (suits c.args.wanted c.args.requirement.now c.args.self.now) (option_map (λ value. value.now)) c.deref-choice-items.result.now c.args.self.now.found c.loop-choice.choice-index None
     (ap (map (option_map (λ value. value.now))) c.deref-choice-items.ensures.value ∙ ap (λ (choices : Choices). choices.found) c.self.view_is) c.loop-choice-test.true
-    (suits-by c.args.wanted c.args.asked.now c.args.self.now c.looks_at-looks.result _
-    (c.looks_at-looks.ensures ∙ ap (λ (choices : Choices). looks_at choices.side choices.key c.args.asked.now) c.self.view_is) c.if-suits.ensures)
+    (suits-by c.args.wanted c.args.requirement.now c.args.self.now c.looks_at-looks.result _
+    (c.looks_at-looks.ensures ∙ ap (λ (choices : Choices). looks_at choices.side choices.key c.args.requirement.now) c.self.view_is) c.if-suits.ensures)

@@ -6,4 +6,4 @@ use Rattle.np_exposure.proofs.choices.KeyChoices.can_be.Given as goal
 
 -- none of those so far is as wanted
 abbrev pub invariant-loop-choice : goal.invariant-loop-choice
-invariant-loop-choice l = list_any (suits l.wanted l.asked l.self) (map (option_map (λ value. value.now)) (take l.choice-index l.choice-items)) ≡ false
+invariant-loop-choice l = list_any (suits l.wanted l.requirement l.self) (map (option_map (λ value. value.now)) (take l.choice-index l.choice-items)) ≡ false

@@ -10,5 +10,5 @@ returns c = λ s spot within.
     let namespace = (near_pod c.args.rules.now).namespace in
     ap (λ b. b || list_any (rule_matches namespace s spot) c.loop-kept.open.items) (c.in_ok-joined_set.ensures spot)
     ∙ c.loop-kept.invariant (kept_matches namespace (pod (stranger_end s)) spot)
-    ∙ ap (list_any (kept_matches namespace (pod (stranger_end s)) spot)) (take_all c.loop-kept.kept-index c.args.asked.now c.loop-kept-test.false)
+    ∙ ap (list_any (kept_matches namespace (pod (stranger_end s)) spot)) (take_all c.loop-kept.kept-index c.args.net_rules.now c.loop-kept-test.false)
     ∙ c.requires s spot within

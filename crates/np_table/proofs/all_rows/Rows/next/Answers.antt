@@ -58,7 +58,7 @@ loop-folded-preserved g c =
         arith,
         c.in_ok-rows.ensures.counted,
         c.loop-folded.invariant.counted,
-        due_from-over lists folding c.loop-folded.self-inside.place c.pass_over-self-inside.result c.loop-folded.self-inside.kept same,
+        due_from-over lists folding c.loop-folded.self-inside.place c.pass_over-self-inside.result c.loop-folded.self-inside.cache same,
       ));
       least = omega (arith, c.in_ok-rows.ensures.least, c.loop-folded.invariant.least);
     }
@@ -69,5 +69,5 @@ returns-in_err-rows-clause-most g c =
     let same : IsOfSameSource (number_of_workloads lists) c.loop-folded.self-inside.place c.pass_over-self-inside.result =
     subst (λ (l : EstateLists). IsOfSameSource
     (number_of_workloads l) c.loop-folded.self-inside.place c.pass_over-self-inside.result) c.loop-folded.invariant.lists c.pass_over-self-inside.ensures.source in
-    let due = due_from-over lists (folding_of lists) c.loop-folded.self-inside.place c.pass_over-self-inside.result c.loop-folded.self-inside.kept same in
+    let due = due_from-over lists (folding_of lists) c.loop-folded.self-inside.place c.pass_over-self-inside.result c.loop-folded.self-inside.cache same in
     OnErr-from c.from_residual-in_err-rows.result _ (omega (arith, due, c.in_err-rows.ensures.most, c.loop-folded.invariant.counted))
