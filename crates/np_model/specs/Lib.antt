@@ -1,6 +1,7 @@
 pub mod Actions
 pub mod Families
 pub mod Lawful
+pub mod Peers
 pub mod PodPlaces
 pub mod Prelude
 pub mod Types
