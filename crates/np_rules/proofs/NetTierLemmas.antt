@@ -1,7 +1,7 @@
 -- Rules of NetworkPolicies, policy by policy. For `permits` and crates above.
 use Rattle.std.proofs.Common.{◌≡◌, ℕ, ◌+◌, ◌<◌, List, [], Bool, ◌||◌, length, take, get_or, refl, sym, ap, ◌∙◌, unwrap_or, if◌then◌else◌}
 use Rattle.std.specs.List.{list_any}
-use Rattle.np_rules.specs.Prelude.{Contact, Direction, NetPolicy, PlacedNetRule, PodEnd, net_places, net_places_of, net_rule_matches, net_rules_of, net_selects, permits, placed_net_matches}
+use Rattle.np_rules.specs.Prelude.{Contact, Direction, NetPolicy, PlacedNetRule, PodEnd, net_places_of, net_rule_matches, net_rules_of, net_selects, permits, placed_net_matches}
 use Rattle.np_rules.proofs.PlacesLemmas.{if_both, list_any-next, list_any-numbered}
 
 -- the rules of a policy, where it selects the pod

@@ -1,5 +1,5 @@
 -- The walk of a layer at one spot. `at` tells which sets have the spot.
-use Rattle.std.specs.Prelude.{Bool, true, false, if◌then◌else◌, Option, Some, None, find}
+use Rattle.std.specs.Prelude.{Bool, true, if◌then◌else◌, Option, Some, None, find}
 use Rattle.std.specs.List.{list_any}
 use Rattle.np_model.specs.Prelude.{action_says}
 use Rattle.np_tiers.specs.Types.{AdminPart, BasePart, Layer}
