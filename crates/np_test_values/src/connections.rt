@@ -1,7 +1,7 @@
 //! Sets of ports and of connections, and their texts, by example. More texts stand in transcripts/texts.txt.
 
 use crate::sets::Written;
-use np_base::PortNum;
+use np_base::{Cells, PortNum};
 use np_conns::{ConnSet, Proto, print_conns, read_conns};
 use np_sets::IntervalSet;
 use std::alloc::Global;
@@ -11,6 +11,24 @@ impl Written for ConnSet {
     fn read<A: Abort>(rt: &A, alloc: Global, text: &str) -> ConnSet {
         read_conns(alloc, text).expect(rt, "connections")
     }
+}
+
+// Stops the test where a set that is held once with the one before it is not what its text writes.
+fn expect_held_once(rt: &impl Abort, alloc: Global, before: &ConnSet, text: &str) {
+    let set = ConnSet::read(rt, alloc, text);
+    let held = set
+        .held_once(Some(before))
+        .expect(rt, "a set that is held once");
+    assert!(rt; held.same(&ConnSet::read(rt, alloc, text)), "held_once");
+}
+
+// A set stays what it is, whether the one before it has the same ports or others.
+#[test]
+fn sets_held_once(rt: HostRuntime) {
+    let alloc = rt.alloc();
+    let before = ConnSet::read(&rt, alloc, "TCP 80-89,100,200");
+    expect_held_once(&rt, alloc, &before, "TCP 80-89,100,200");
+    expect_held_once(&rt, alloc, &before, "TCP 80-89,100,300");
 }
 
 // Ports in no order, of which one stands twice, and which touch.
