@@ -5,9 +5,10 @@ use Rattle.std.specs.List.{flat_map}
 use Rattle.std.specs.Str.{bytes_eq}
 use Rattle.std.proofs.lemmas.Bool.{false≢true, or_cases}
 use Rattle.std.proofs.lemmas.List.Folds.{list_any-append}
-use Rattle.np_fold.specs.Prelude.{AdminPeer, AdminRule, BasePolicy, EstateLists, IsInForce, IsNamed, IsOfAdmin, IsOfAdminPeer, IsOfAdminRules, IsOfNetDirection, IsOfNetPeer, IsOfNetPolicy, IsOfNetRule, NetPeer, NetPolicy, NetRule, Selector, Subject, keys_of_admin_peer, keys_of_admin_policy, keys_of_admin_rule, keys_of_baseline, keys_of_estate, keys_of_net_direction, keys_of_net_peer, keys_of_net_policy, keys_of_net_rule, keys_of_optional, keys_of_selector, keys_of_service, keys_of_subject}
+use Rattle.np_fold.specs.Prelude.{AdminPeer, EstateLists, IsInForce, IsNamed, IsOfAdminPeer, IsOfNetDirection, IsOfNetPeer, IsOfNetPolicy, IsOfNetRule, IsOfSubject, NetPeer, NetPolicy, NetRule, Selector, Subject, admin_subjects, keys_of_admin_peer, keys_of_estate, keys_of_net_direction, keys_of_net_peer, keys_of_net_policy, keys_of_net_rule, keys_of_optional, keys_of_selector, keys_of_service, keys_of_subject}
 use Rattle.np_fold.specs.InForce as force
 use Rattle.np_labels.specs.Prelude.{is_listed}
+use Rattle.np_model.specs.Prelude.{admin_peers}
 use Rattle.np_model.specs.declared.admin_policy.AdminPeer.TheVariants as admin
 use Rattle.np_model.specs.declared.network_policy.NetPeer.TheVariants as net
 
@@ -45,11 +46,11 @@ module _ (key : List ℕ) where
   optional (Some selector) is = record { selector = selector; is = refl; names = is }
 
   net_peer : (peer : NetPeer) → is_listed (keys_of_net_peer peer) key ≡ true → Found (λ selector. IsOfNetPeer selector peer)
-  net_peer (net.Pods namespaces pods) is = go (halves key (keys_of_optional namespaces) (keys_of_optional pods) is)
-    where
-      go : (is_listed (keys_of_optional namespaces) key ≡ true) ⊎ (is_listed (keys_of_optional pods) key ≡ true) → Found (λ selector. IsOfNetPeer selector (net.Pods namespaces pods))
-      go (inl one) = again (λ selector given. force.IsOfNetPeer.namespaces pods (ap (λ (some : Option Selector). net.Pods some pods) given)) (optional namespaces one)
-      go (inr other) = again (λ selector given. force.IsOfNetPeer.pods namespaces (ap (λ (some : Option Selector). net.Pods namespaces some) given)) (optional pods other)
+  net_peer (net.Pods namespaces pods) is =
+      elim (halves key (keys_of_optional namespaces) (keys_of_optional pods) is) [
+        | inl one ↦ again (λ selector given. force.IsOfNetPeer.namespaces pods (ap (λ (some : Option Selector). net.Pods some pods) given)) (optional namespaces one)
+        | inr other ↦ again (λ selector given. force.IsOfNetPeer.pods namespaces (ap (λ (some : Option Selector). net.Pods namespaces some) given)) (optional pods other)
+      ]
   net_peer (net.Block cidr excepts) is = absurd (false≢true is)
 
   net_rule : (rule : NetRule) → is_listed (keys_of_net_rule rule) key ≡ true → Found (λ selector. IsOfNetRule selector rule)
@@ -64,82 +65,53 @@ module _ (key : List ℕ) where
       again (λ selector has. record { rules = rules; there = refl; rule = found.item; listed = found.listed; has = has }) (net_rule found.item found.has)
 
   net_policy : (policy : NetPolicy) → is_listed (keys_of_net_policy policy) key ≡ true → Found (λ selector. IsOfNetPolicy selector policy)
-  net_policy policy is = go (halves key (keys_of_selector policy.subject ++ keys_of_net_direction policy.ingress) (keys_of_net_direction policy.egress) is)
-    where
-      first : (is_listed (keys_of_selector policy.subject) key ≡ true) ⊎ (is_listed (keys_of_net_direction policy.ingress) key ≡ true) → Found (λ selector. IsOfNetPolicy selector policy)
-      first (inl one) = record { selector = policy.subject; is = force.IsOfNetPolicy.subject refl; names = one }
-      first (inr other) = again (λ selector has. force.IsOfNetPolicy.ingress has) (net_direction policy.ingress other)
-
-      go : (is_listed (keys_of_selector policy.subject ++ keys_of_net_direction policy.ingress) key ≡ true) ⊎ (is_listed (keys_of_net_direction policy.egress) key ≡ true) →
-          Found (λ selector. IsOfNetPolicy selector policy)
-      go (inl one) = first (halves key (keys_of_selector policy.subject) (keys_of_net_direction policy.ingress) one)
-      go (inr other) = again (λ selector has. force.IsOfNetPolicy.egress has) (net_direction policy.egress other)
+  net_policy policy is =
+      elim (halves key (keys_of_selector policy.subject ++ keys_of_net_direction policy.ingress) (keys_of_net_direction policy.egress) is) [
+        | inl most ↦ elim (halves key (keys_of_selector policy.subject) (keys_of_net_direction policy.ingress) most) [
+          | inl one ↦ record { selector = policy.subject; is = force.IsOfNetPolicy.subject refl; names = one }
+          | inr other ↦ again (λ selector has. force.IsOfNetPolicy.ingress has) (net_direction policy.ingress other)
+        ]
+        | inr other ↦ again (λ selector has. force.IsOfNetPolicy.egress has) (net_direction policy.egress other)
+      ]
 
   admin_peer : (peer : AdminPeer) → is_listed (keys_of_admin_peer peer) key ≡ true → Found (λ selector. IsOfAdminPeer selector peer)
-  admin_peer (admin.Pods namespaces pods) is = go (halves key (keys_of_selector namespaces) (keys_of_selector pods) is)
-    where
-      go : (is_listed (keys_of_selector namespaces) key ≡ true) ⊎ (is_listed (keys_of_selector pods) key ≡ true) → Found (λ selector. IsOfAdminPeer selector (admin.Pods namespaces pods))
-      go (inl one) = record { selector = namespaces; is = force.IsOfAdminPeer.namespaces pods refl; names = one }
-      go (inr other) = record { selector = pods; is = force.IsOfAdminPeer.pods namespaces refl; names = other }
+  admin_peer (admin.Pods namespaces pods) is =
+      elim (halves key (keys_of_selector namespaces) (keys_of_selector pods) is) [
+        | inl one ↦ record { selector = namespaces; is = force.IsOfAdminPeer.namespaces pods refl; names = one }
+        | inr other ↦ record { selector = pods; is = force.IsOfAdminPeer.pods namespaces refl; names = other }
+      ]
   admin_peer (admin.Networks cidrs) is = absurd (false≢true is)
 
-  admin_rules : (rules : List AdminRule) → is_listed (flat_map keys_of_admin_rule rules) key ≡ true → Found (λ selector. IsOfAdminRules selector rules)
-  admin_rules rules is =
-      let found = somewhere keys_of_admin_rule key rules is in
-      let inner = somewhere keys_of_admin_peer key found.item.peers found.has in
-      again (λ selector has. record { rule = found.item; listed = found.listed; peer = inner.item; listed_peer = inner.listed; has = has }) (admin_peer inner.item inner.has)
+  subject : (subject : Subject) → is_listed (keys_of_subject subject) key ≡ true → Found (λ selector. IsOfSubject selector subject)
+  subject given is =
+      elim (halves key (keys_of_selector given.namespaces) (keys_of_selector given.pods) is) [
+        | inl one ↦ record { selector = given.namespaces; is = force.IsOfSubject.namespaces refl; names = one }
+        | inr other ↦ record { selector = given.pods; is = force.IsOfSubject.pods refl; names = other }
+      ]
 
-  admin_policy : (subject : Subject) (ingress egress : List AdminRule) → is_listed (keys_of_subject subject ++ flat_map keys_of_admin_rule ingress ++ flat_map keys_of_admin_rule egress) key ≡ true →
-      Found (λ selector. IsOfAdmin selector subject ingress egress)
-  admin_policy subject ingress egress is = go (halves key (keys_of_subject subject ++ flat_map keys_of_admin_rule ingress) (flat_map keys_of_admin_rule egress) is)
-    where
-      of_subject : (is_listed (keys_of_selector subject.namespaces) key ≡ true) ⊎ (is_listed (keys_of_selector subject.pods) key ≡ true) → Found (λ selector. IsOfAdmin selector subject ingress egress)
-      of_subject (inl one) = record { selector = subject.namespaces; is = force.IsOfAdmin.namespaces refl; names = one }
-      of_subject (inr other) = record { selector = subject.pods; is = force.IsOfAdmin.pods refl; names = other }
-
-      first : (is_listed (keys_of_subject subject) key ≡ true) ⊎ (is_listed (flat_map keys_of_admin_rule ingress) key ≡ true) → Found (λ selector. IsOfAdmin selector subject ingress egress)
-      first (inl one) = of_subject (halves key (keys_of_selector subject.namespaces) (keys_of_selector subject.pods) one)
-      first (inr other) = again (λ selector has. force.IsOfAdmin.ingress_rule has) (admin_rules ingress other)
-
-      go : (is_listed (keys_of_subject subject ++ flat_map keys_of_admin_rule ingress) key ≡ true) ⊎ (is_listed (flat_map keys_of_admin_rule egress) key ≡ true) →
-          Found (λ selector. IsOfAdmin selector subject ingress egress)
-      go (inl one) = first (halves key (keys_of_subject subject) (flat_map keys_of_admin_rule ingress) one)
-      go (inr other) = again (λ selector has. force.IsOfAdmin.egress_rule has) (admin_rules egress other)
-
-  base_policy : (baseline : Option BasePolicy) → is_listed (keys_of_baseline baseline) key ≡ true →
-      Found (λ selector. (policy : BasePolicy) × (baseline ≡ Some policy) × IsOfAdmin selector policy.subject policy.ingress policy.egress)
-  base_policy None is = absurd (false≢true is)
-  base_policy (Some policy) is = again (λ selector has. (policy, refl, has)) (admin_policy policy.subject policy.ingress policy.egress is)
+  in_force : (lists : EstateLists) → is_listed (keys_of_estate lists) key ≡ true → Found (λ selector. IsInForce lists selector)
+  in_force lists is =
+      let nets = flat_map keys_of_net_policy lists.net_policies in
+      let subjects = flat_map keys_of_subject (admin_subjects lists) in
+      let peers = flat_map keys_of_admin_peer (admin_peers lists.admin_policies lists.baseline) in
+      elim (halves key (nets ++ subjects ++ peers) (flat_map keys_of_service lists.services) is) [
+        | inl more ↦ elim (halves key (nets ++ subjects) peers more) [
+          | inl most ↦ elim (halves key nets subjects most) [
+            | inl one ↦
+                let found = somewhere keys_of_net_policy key lists.net_policies one in
+                again (λ selector has. force.IsInForce.of_net_policy found.item found.listed has) (net_policy found.item found.has)
+            | inr other ↦
+                let found = somewhere keys_of_subject key (admin_subjects lists) other in
+                again (λ selector has. force.IsInForce.of_subject found.item found.listed has) (subject found.item found.has)
+          ]
+          | inr other ↦
+              let found = somewhere keys_of_admin_peer key (admin_peers lists.admin_policies lists.baseline) other in
+              again (λ selector has. force.IsInForce.of_admin_peer found.item found.listed has) (admin_peer found.item found.has)
+        ]
+        | inr other ↦
+            let found = somewhere keys_of_service key lists.services other in
+            again (λ selector given. force.IsInForce.of_service found.item found.listed given) (optional found.item.selector found.has)
+      ]
 
   pub named-somewhere : (lists : EstateLists) → is_listed (keys_of_estate lists) key ≡ true → IsNamed lists key
-  named-somewhere lists is = done (last (halves key (flat_map keys_of_net_policy lists.net_policies ++ flat_map keys_of_admin_policy lists.admin_policies ++ keys_of_baseline lists.baseline)
-      (flat_map keys_of_service lists.services) is))
-    where
-      done : Found (λ selector. IsInForce lists selector) → IsNamed lists key
-      done found = record { selector = found.selector; in_force = found.is; names = found.names }
-
-      of_net : Where keys_of_net_policy lists.net_policies key → Found (λ selector. IsInForce lists selector)
-      of_net found = again (λ selector has. force.IsInForce.of_net_policy found.item found.listed has) (net_policy found.item found.has)
-
-      of_admin : Where keys_of_admin_policy lists.admin_policies key → Found (λ selector. IsInForce lists selector)
-      of_admin found = again (λ selector has. force.IsInForce.of_admin_policy found.item found.listed has) (admin_policy found.item.subject found.item.ingress found.item.egress found.has)
-
-      of_service : Where keys_of_service lists.services key → Found (λ selector. IsInForce lists selector)
-      of_service found = again (λ selector given. force.IsInForce.of_service found.item found.listed given) (optional found.item.selector found.has)
-
-      first : (is_listed (flat_map keys_of_net_policy lists.net_policies) key ≡ true) ⊎ (is_listed (flat_map keys_of_admin_policy lists.admin_policies) key ≡ true) →
-          Found (λ selector. IsInForce lists selector)
-      first (inl one) = of_net (somewhere keys_of_net_policy key lists.net_policies one)
-      first (inr other) = of_admin (somewhere keys_of_admin_policy key lists.admin_policies other)
-
-      second : (is_listed (flat_map keys_of_net_policy lists.net_policies ++ flat_map keys_of_admin_policy lists.admin_policies) key ≡ true) ⊎
-          (is_listed (keys_of_baseline lists.baseline) key ≡ true) →
-          Found (λ selector. IsInForce lists selector)
-      second (inl one) = first (halves key (flat_map keys_of_net_policy lists.net_policies) (flat_map keys_of_admin_policy lists.admin_policies) one)
-      second (inr other) = again (λ selector of. force.IsInForce.of_baseline of.0 of.1 of.2) (base_policy lists.baseline other)
-
-      last : (is_listed (flat_map keys_of_net_policy lists.net_policies ++ flat_map keys_of_admin_policy lists.admin_policies ++ keys_of_baseline lists.baseline) key ≡ true) ⊎
-          (is_listed (flat_map keys_of_service lists.services) key ≡ true) →
-          Found (λ selector. IsInForce lists selector)
-      last (inl one) = second (halves key (flat_map keys_of_net_policy lists.net_policies ++ flat_map keys_of_admin_policy lists.admin_policies) (keys_of_baseline lists.baseline) one)
-      last (inr other) = of_service (somewhere keys_of_service key lists.services other)
+  named-somewhere lists is = let found = in_force lists is in record { selector = found.selector; in_force = found.is; names = found.names }

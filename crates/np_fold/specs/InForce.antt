@@ -1,7 +1,9 @@
 -- The selectors that are in force, whose keys tell pods apart.
 use Rattle.std.specs.Prelude.{◌≡◌, ℕ, List, Option, Some, Contains, true, map}
-use Rattle.np_fold.specs.Types.{AdminPeer, AdminPolicy, AdminRule, BasePolicy, EstateLists, NetPeer, NetPolicy, NetRule, Selector, ServiceItem, Subject}
+use Rattle.np_fold.specs.Types.{AdminPeer, EstateLists, NetPeer, NetPolicy, NetRule, Selector, ServiceItem, Subject}
+use Rattle.np_fold.specs.Keys.{admin_subjects}
 use Rattle.np_labels.specs.Prelude.{is_listed}
+use Rattle.np_model.specs.Prelude.{admin_peers}
 use Rattle.np_model.specs.declared.admin_policy.AdminPeer.TheVariants as admin
 use Rattle.np_model.specs.declared.network_policy.NetPeer.TheVariants as net
 
@@ -35,26 +37,16 @@ pub data IsOfAdminPeer (selector : Selector) (peer : AdminPeer) : Type 0 where
   namespaces : (pods : Selector) → peer ≡ admin.Pods selector pods → IsOfAdminPeer selector peer
   pods : (namespaces : Selector) → peer ≡ admin.Pods namespaces selector → IsOfAdminPeer selector peer
 
--- some peer of some of the rules has it
-pub record IsOfAdminRules (selector : Selector) (rules : List AdminRule) : Type 0 where
-  pub rule : AdminRule
-  pub listed : Contains rules rule
-  pub peer : AdminPeer
-  pub listed_peer : Contains rule.peers peer
-  pub has : IsOfAdminPeer selector peer
-
--- an admin policy or the baseline has the selector: its subject has it, or a rule
-pub data IsOfAdmin (selector : Selector) (subject : Subject) (ingress egress : List AdminRule) : Type 0 where
-  namespaces : subject.namespaces ≡ selector → IsOfAdmin selector subject ingress egress
-  pods : subject.pods ≡ selector → IsOfAdmin selector subject ingress egress
-  ingress_rule : IsOfAdminRules selector ingress → IsOfAdmin selector subject ingress egress
-  egress_rule : IsOfAdminRules selector egress → IsOfAdmin selector subject ingress egress
+-- the subject of an admin policy or of the baseline has the selector
+pub data IsOfSubject (selector : Selector) (subject : Subject) : Type 0 where
+  namespaces : subject.namespaces ≡ selector → IsOfSubject selector subject
+  pods : subject.pods ≡ selector → IsOfSubject selector subject
 
 -- a selector of some policy or Service of the estate
 pub data IsInForce (lists : EstateLists) (selector : Selector) : Type 0 where
   of_net_policy : (policy : NetPolicy) → Contains lists.net_policies policy → IsOfNetPolicy selector policy → IsInForce lists selector
-  of_admin_policy : (policy : AdminPolicy) → Contains lists.admin_policies policy → IsOfAdmin selector policy.subject policy.ingress policy.egress → IsInForce lists selector
-  of_baseline : (policy : BasePolicy) → lists.baseline ≡ Some policy → IsOfAdmin selector policy.subject policy.ingress policy.egress → IsInForce lists selector
+  of_subject : (subject : Subject) → Contains (admin_subjects lists) subject → IsOfSubject selector subject → IsInForce lists selector
+  of_admin_peer : (peer : AdminPeer) → Contains (admin_peers lists.admin_policies lists.baseline) peer → IsOfAdminPeer selector peer → IsInForce lists selector
   of_service : (service : ServiceItem) → Contains lists.services service → service.selector ≡ Some selector → IsInForce lists selector
 
 -- some selector that is in force has a requirement of the key

@@ -1,11 +1,12 @@
 -- The keys of labels that selectors name.
-use Rattle.std.specs.Prelude.{ℕ, List, [], ◌++◌, map, fold, Option}
+use Rattle.std.specs.Prelude.{ℕ, List, [], ◌∷◌, ◌++◌, map, fold, Option}
 use Rattle.std.specs.BTreeSet.{insert_key}
 use Rattle.std.specs.Cmp.Lexicographic.{slice_cmp}
 use Rattle.std.specs.List.{flat_map}
 use Rattle.std.specs.Option.{option_map_or}
 use Rattle.std.specs.Ordering.{nat_cmp}
-use Rattle.np_fold.specs.Types.{AdminPeer, AdminPolicy, AdminRule, BasePolicy, EstateLists, NetPeer, NetPolicy, NetRule, Selector, ServiceItem, Subject}
+use Rattle.np_fold.specs.Types.{AdminPeer, EstateLists, NetPeer, NetPolicy, NetRule, Selector, ServiceItem, Subject}
+use Rattle.np_model.specs.Prelude.{admin_peers}
 use Rattle.np_model.specs.declared.admin_policy.AdminPeer.TheVariants as admin
 use Rattle.np_model.specs.declared.network_policy.NetPeer.TheVariants as net
 
@@ -40,31 +41,22 @@ abbrev pub keys_of_admin_peer : AdminPeer → List (List ℕ)
 keys_of_admin_peer (admin.Pods namespaces pods) = keys_of_selector namespaces ++ keys_of_selector pods
 keys_of_admin_peer (admin.Networks cidrs) = []
 
-abbrev pub keys_of_admin_rule : AdminRule → List (List ℕ)
-keys_of_admin_rule rule = flat_map keys_of_admin_peer rule.peers
-
 abbrev pub keys_of_subject : Subject → List (List ℕ)
 keys_of_subject subject = keys_of_selector subject.namespaces ++ keys_of_selector subject.pods
-
-abbrev pub keys_of_admin_policy : AdminPolicy → List (List ℕ)
-keys_of_admin_policy policy = keys_of_subject policy.subject ++ flat_map keys_of_admin_rule policy.ingress ++ flat_map keys_of_admin_rule policy.egress
-
-abbrev pub keys_of_base_policy : BasePolicy → List (List ℕ)
-keys_of_base_policy policy = keys_of_subject policy.subject ++ flat_map keys_of_admin_rule policy.ingress ++ flat_map keys_of_admin_rule policy.egress
-
--- the keys of a baseline that may be missing
-abbrev pub keys_of_baseline : Option BasePolicy → List (List ℕ)
-keys_of_baseline found = option_map_or keys_of_base_policy found []
 
 -- ---- all of an estate
 
 abbrev pub keys_of_service : ServiceItem → List (List ℕ)
 keys_of_service service = keys_of_optional service.selector
 
+-- the subjects of the AdminNetworkPolicies and of the baseline
+abbrev pub admin_subjects : EstateLists → List Subject
+admin_subjects lists = map (λ policy. policy.subject) lists.admin_policies ++ option_map_or (λ base. base.subject ∷ []) lists.baseline []
+
 -- the keys that a selector of some policy or service names
 abbrev pub keys_of_estate : EstateLists → List (List ℕ)
-keys_of_estate lists = flat_map keys_of_net_policy lists.net_policies ++ flat_map keys_of_admin_policy lists.admin_policies
-    ++ keys_of_baseline lists.baseline ++ flat_map keys_of_service lists.services
+keys_of_estate lists = flat_map keys_of_net_policy lists.net_policies ++ flat_map keys_of_subject (admin_subjects lists)
+    ++ flat_map keys_of_admin_peer (admin_peers lists.admin_policies lists.baseline) ++ flat_map keys_of_service lists.services
 
 -- keys in ascending order, and more of them, each put in at its place
 abbrev pub with_keys : List (List ℕ) → List (List ℕ) → List (List ℕ)

@@ -1,9 +1,9 @@
 -- The definitions and types of this crate that its proofs and the crates above speak of, one import line a file.
 pub use Rattle.np_fold.specs.Alike.{Alike, IsSameKind, are_both_in, are_same_owner, are_same_port, have_same_value, is_in}
 unfoldable pub use Rattle.np_fold.specs.Alike.{are_alike, are_same_kind}
-pub use Rattle.np_fold.specs.Blocks.{cidrs_of_admin_policy, cidrs_of_base_policy, cidrs_of_baseline, cidrs_of_estate, cidrs_of_peer, cidrs_of_rule}
-pub use Rattle.np_fold.specs.InForce.{IsInForce, IsNamed, IsOfAdmin, IsOfAdminPeer, IsOfAdminRules, IsOfNetDirection, IsOfNetPeer, IsOfNetPolicy, IsOfNetRule}
-pub use Rattle.np_fold.specs.Keys.{keys_of_admin_peer, keys_of_admin_policy, keys_of_admin_rule, keys_of_base_policy, keys_of_baseline, keys_of_estate, keys_of_net_direction, keys_of_net_peer, keys_of_net_policy, keys_of_net_rule, keys_of_optional, keys_of_selector, keys_of_service, keys_of_subject, with_keys}
+pub use Rattle.np_fold.specs.Blocks.{cidrs_of_estate, cidrs_of_peer}
+pub use Rattle.np_fold.specs.InForce.{IsInForce, IsNamed, IsOfAdminPeer, IsOfNetDirection, IsOfNetPeer, IsOfNetPolicy, IsOfNetRule, IsOfSubject}
+pub use Rattle.np_fold.specs.Keys.{admin_subjects, keys_of_admin_peer, keys_of_estate, keys_of_net_direction, keys_of_net_peer, keys_of_net_policy, keys_of_net_rule, keys_of_optional, keys_of_selector, keys_of_service, keys_of_subject, with_keys}
 pub use Rattle.np_fold.specs.Order.{compare_labels, compare_owners, compare_ports, compare_traits, traits_total}
 pub use Rattle.np_fold.specs.Traits.{blocks_of, label_of, traits_of, with_owner}
 pub use Rattle.np_fold.specs.Types.{Address, AdminPeer, AdminPolicy, AdminRule, BasePolicy, Cidr, EstateLists, Label, Named, NamedPort, NetPeer, NetPolicy, NetRule, Owner, Pair, Pod, Selector, ServiceItem, Subject, Traits}

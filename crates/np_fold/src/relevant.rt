@@ -1,19 +1,17 @@
 //! The keys of labels that rules look at.
-ghost use Rattle.std.specs.Prelude.{◌≡◌, ◌++◌, [], List, ℕ, IfOk, OnOk};
+ghost use Rattle.std.specs.Prelude.{◌≡◌, [], List, ℕ, IfOk, OnOk};
 ghost use Rattle.std.specs.List.{flat_map};
 ghost use Rattle.std.specs.List.Sorted.{IsStrictlySortedBy};
 ghost use Rattle.std.specs.Option.{option_copied};
 ghost use Rattle.std.specs.Ordering.{nat_cmp};
 ghost use Rattle.std.specs.Cmp.Lexicographic.{slice_cmp};
 ghost use Rattle.np_labels.specs.Prelude.{is_listed};
+ghost use Rattle.np_model.specs.Prelude.{admin_peers};
 ghost use Rattle.np_fold.specs.Keys as spec;
 
 use np_base::{NoMemory, Seq, Text};
 use np_labels::Selector;
-use np_model::{
-    AdminPeer, AdminPolicy, AdminRule, BasePolicy, Estate, NetPeer, NetPolicy, NetRule,
-    ServiceItem, Subject,
-};
+use np_model::{AdminPeer, Estate, NetPeer, NetPolicy, NetRule, ServiceItem, Subject, admin_peers};
 use std::alloc::Global;
 use std::collections::BTreeSet;
 
@@ -26,7 +24,7 @@ pub fn relevant_keys(alloc: Global, estate: &Estate) -> Result<Seq<Text>, NoMemo
     ensures all { IfOk result (λ made. made ≡ spec.with_keys [] (spec.keys_of_estate estate.now)) }
 {
     let mut keys = BTreeSet::new(alloc);
-    add_estate(&mut keys, estate)?;
+    add_estate(alloc, &mut keys, estate)?;
     in_order(alloc, keys)
 }
 
@@ -42,12 +40,12 @@ fn in_order(alloc: Global, keys: BTreeSet<Text>) -> Result<Seq<Text>, NoMemory>
 }
 
 // Adds the keys of all policies and services.
-fn add_estate(keys: &mut BTreeSet<Text>, estate: &Estate) -> Result<(), NoMemory>
+fn add_estate(alloc: Global, keys: &mut BTreeSet<Text>, estate: &Estate) -> Result<(), NoMemory>
     ensures { OnOk result (keys.new.keys ≡ spec.with_keys keys.old.keys (spec.keys_of_estate estate.now)) }
 {
     add_net_policies(keys, estate.net_policies())?;
-    add_admin_policies(keys, estate.admin_policies())?;
-    add_baseline(keys, estate.baseline())?;
+    add_subjects(keys, estate)?;
+    add_admin_peers(alloc, keys, estate)?;
     add_services(keys, estate.services())
 }
 
@@ -120,51 +118,18 @@ fn add_net_peer(keys: &mut BTreeSet<Text>, peer: &NetPeer) -> Result<(), NoMemor
     }
 }
 
-// Adds the keys of AdminNetworkPolicies.
-fn add_admin_policies(keys: &mut BTreeSet<Text>, policies: &[AdminPolicy]) -> Result<(), NoMemory>
+// Adds the keys of the subjects of admin policies.
+fn add_subjects(keys: &mut BTreeSet<Text>, estate: &Estate) -> Result<(), NoMemory>
     ensures { OnOk result (keys.new.keys
-        ≡ spec.with_keys keys.old.keys (flat_map spec.keys_of_admin_policy policies.now)) }
+        ≡ spec.with_keys keys.old.keys (flat_map spec.keys_of_subject (spec.admin_subjects estate.now))) }
 {
-    for policy in policies {
-        add_admin(
-            keys,
-            &policy.subject,
-            policy.ingress.items(),
-            policy.egress.items(),
-        )?;
+    for policy in estate.admin_policies() {
+        add_subject(keys, &policy.subject)?;
     }
-    Ok(())
-}
-
-// Adds the keys of the BaselineAdminNetworkPolicy, where there is one.
-fn add_baseline(keys: &mut BTreeSet<Text>, policy: Option<&BasePolicy>) -> Result<(), NoMemory>
-    ensures { OnOk result (keys.new.keys
-        ≡ spec.with_keys keys.old.keys (spec.keys_of_baseline (option_copied policy.entry))) }
-{
-    match policy {
-        Some(policy) => add_admin(
-            keys,
-            &policy.subject,
-            policy.ingress.items(),
-            policy.egress.items(),
-        ),
+    match estate.baseline() {
+        Some(base) => add_subject(keys, &base.subject),
         None => Ok(()),
     }
-}
-
-// Adds the keys of the subject and of the rules of a policy for the whole cluster.
-fn add_admin(
-    keys: &mut BTreeSet<Text>,
-    subject: &Subject,
-    ingress: &[AdminRule],
-    egress: &[AdminRule],
-) -> Result<(), NoMemory>
-    ensures { OnOk result (keys.new.keys ≡ spec.with_keys keys.old.keys (spec.keys_of_subject subject.now
-        ++ flat_map spec.keys_of_admin_rule ingress.now ++ flat_map spec.keys_of_admin_rule egress.now)) }
-{
-    add_subject(keys, subject)?;
-    add_admin_rules(keys, ingress)?;
-    add_admin_rules(keys, egress)
 }
 
 // Adds the keys of a subject.
@@ -175,23 +140,16 @@ fn add_subject(keys: &mut BTreeSet<Text>, subject: &Subject) -> Result<(), NoMem
     add_selector(keys, &subject.pods)
 }
 
-// Adds the keys of the rules of a direction.
-fn add_admin_rules(keys: &mut BTreeSet<Text>, rules: &[AdminRule]) -> Result<(), NoMemory>
-    ensures { OnOk result (keys.new.keys
-        ≡ spec.with_keys keys.old.keys (flat_map spec.keys_of_admin_rule rules.now)) }
+// Adds the keys of the peers of admin rules.
+fn add_admin_peers(
+    alloc: Global,
+    keys: &mut BTreeSet<Text>,
+    estate: &Estate,
+) -> Result<(), NoMemory>
+    ensures { OnOk result (keys.new.keys ≡ spec.with_keys keys.old.keys
+        (flat_map spec.keys_of_admin_peer (admin_peers estate.now.admin_policies estate.now.baseline))) }
 {
-    for rule in rules {
-        add_admin_peers(keys, rule.peers.items())?;
-    }
-    Ok(())
-}
-
-// Adds the keys of the peers of a rule.
-fn add_admin_peers(keys: &mut BTreeSet<Text>, peers: &[AdminPeer]) -> Result<(), NoMemory>
-    ensures { OnOk result (keys.new.keys
-        ≡ spec.with_keys keys.old.keys (flat_map spec.keys_of_admin_peer peers.now)) }
-{
-    for peer in peers {
+    for peer in &admin_peers(alloc, estate.admin_policies(), estate.baseline())? {
         add_admin_peer(keys, peer)?;
     }
     Ok(())

@@ -1,4 +1,4 @@
--- Ends that a peer and a port entry do not tell apart. For KindRules, KindSides and 2 more.
+-- Ends that a peer and a port entry do not tell apart. For KindRules, KindSides and KindVerdicts.
 use Rattle.std.proofs.Common.{◌≡◌, ℕ, List, [], ◌∷◌, ◌++◌, Bool, ◌&&◌, Option, Some, None, refl, sym, ap, ◌∙◌}
 use Rattle.std.specs.List.{AllByRecursion}
 use Rattle.np_base.proofs.Each.{All-parts}

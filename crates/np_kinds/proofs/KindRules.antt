@@ -1,9 +1,9 @@
--- Contacts that a rule does not tell apart. For KindSides, KindVerdicts and crates above.
+-- Contacts that a rule does not tell apart. For KindSides and KindVerdicts.
 use Rattle.std.proofs.Common.{◌≡◌, ℕ, List, ◌&&◌, ap, ◌∙◌}
 use Rattle.std.specs.List.{AllByRecursion, flat_map, list_any}
 use Rattle.np_base.proofs.Each.{All-weaker}
-use Rattle.np_kinds.specs.Prelude.{AdminPeer, AdminPort, Family, NetPeer, NetPort, NetRule, PortSpot}
-use Rattle.np_fold.specs.Prelude.{cidrs_of_peer, cidrs_of_rule, keys_of_admin_peer, keys_of_admin_rule, keys_of_net_peer, keys_of_net_rule}
+use Rattle.np_kinds.specs.Prelude.{AdminPeer, AdminPort, NetPeer, NetPort, NetRule, PortSpot}
+use Rattle.np_fold.specs.Prelude.{cidrs_of_peer, keys_of_admin_peer, keys_of_net_peer, keys_of_net_rule}
 use Rattle.np_rules.proofs.EachItem.{All-both, All-each, All-flat, list_any-same, none_or_any-same}
 use Rattle.np_kinds.proofs.KindPeers.{AgreeAt, AgreeIn, SameEnd, admin_entry-same, admin_peer-same, net_entry-same, net_peer-same}
 use Rattle.np_model.specs.declared.admin_policy.AdminRule.{AdminRule}
@@ -41,15 +41,16 @@ net_rule-same namespace one other same rule agree =
 
 -- ---- admin rules
 
-admin_peers-same : (one other : ModelEnd) (family family' : Family) → SameEnd one other → family ≡ family' → (peers : List AdminPeer) →
-    AllByRecursion (AgreeAt one other) (flat_map keys_of_admin_peer peers) → AllByRecursion (AgreeIn one other) (flat_map cidrs_of_peer peers) →
-    AllByRecursion (λ peer. admin_peer_matches peer one family ≡ admin_peer_matches peer other family') peers
-admin_peers-same one other family family' same is peers agree within =
-    let keys = All-flat (AgreeAt one other) keys_of_admin_peer peers agree in
-    let cidrs = All-flat (AgreeIn one other) cidrs_of_peer peers within in
-    All-weaker (λ peer. AllByRecursion (AgreeAt one other) (keys_of_admin_peer peer) × AllByRecursion (AgreeIn one other) (cidrs_of_peer peer))
-    (λ peer. admin_peer_matches peer one family ≡ admin_peer_matches peer other family')
-    (λ peer on. admin_peer-same peer one other family same on.0 on.1 ∙ ap (admin_peer_matches peer other) is) peers (All-both _ _ peers keys cidrs)
+-- the peer matches both contacts, or neither
+abbrev pub IsPeerAlike : Contact → Contact → AdminPeer → Type 0
+IsPeerAlike one other peer = admin_peer_matches peer one.far one.family ≡ admin_peer_matches peer other.far other.family
+
+pub admin_peers-same : (one other : Contact) → SameContact one other → (peers : List AdminPeer) → AllByRecursion (AgreeAt one.far other.far) (flat_map keys_of_admin_peer peers) →
+    AllByRecursion (AgreeIn one.far other.far) (flat_map cidrs_of_peer peers) → AllByRecursion (IsPeerAlike one other) peers
+admin_peers-same one other same peers agree within =
+    All-weaker (λ peer. AllByRecursion (AgreeAt one.far other.far) (keys_of_admin_peer peer) × AllByRecursion (AgreeIn one.far other.far) (cidrs_of_peer peer)) (IsPeerAlike one other)
+    (λ peer on. admin_peer-same peer one.far other.far one.family same.far on.0 on.1 ∙ ap (admin_peer_matches peer other.far) same.family) peers
+    (All-both _ _ peers (All-flat (AgreeAt one.far other.far) keys_of_admin_peer peers agree) (All-flat (AgreeIn one.far other.far) cidrs_of_peer peers within))
 
 admin_ports-same : (one other : ModelEnd) (spot spot' : PortSpot) → SameEnd one other → spot ≡ spot' → (ports : List AdminPort) →
     none_or_any (λ entry. admin_entry_matches entry one spot) ports ≡ none_or_any (λ entry. admin_entry_matches entry other spot') ports
@@ -62,19 +63,15 @@ admin_ports-same one other spot spot' same is ports =
 abbrev pub IsAlikeAt : Contact → Contact → AdminRule → Type 0
 IsAlikeAt one other rule = admin_rule_matches rule one ≡ admin_rule_matches rule other
 
-admin_rule-same : (one other : Contact) → SameContact one other → (rule : AdminRule) → AllByRecursion (AgreeAt one.far other.far) (keys_of_admin_rule rule) →
-    AllByRecursion (AgreeIn one.far other.far) (cidrs_of_rule rule) → IsAlikeAt one other rule
-admin_rule-same one other same rule agree within =
-    let peers = list_any-same (λ peer. admin_peer_matches peer one.far one.family) (λ peer. admin_peer_matches peer other.far other.family) rule.peers
-    (admin_peers-same one.far other.far one.family other.family same.far same.family rule.peers agree within) in
+admin_rule-same : (one other : Contact) → SameContact one other → (rule : AdminRule) → AllByRecursion (IsPeerAlike one other) rule.peers → IsAlikeAt one other rule
+admin_rule-same one other same rule alike =
+    let peers = list_any-same (λ peer. admin_peer_matches peer one.far one.family) (λ peer. admin_peer_matches peer other.far other.family) rule.peers alike in
     let ports = admin_ports-same one.destination other.destination one.spot other.spot same.destination same.spot rule.ports in
     ap (λ b. b && none_or_any (λ entry. admin_entry_matches entry one.destination one.spot) rule.ports) peers
     ∙ ap (λ b. list_any (λ peer. admin_peer_matches peer other.far other.family) rule.peers && b) ports
 
-pub admin_rules-same : (one other : Contact) → SameContact one other → (rules : List AdminRule) → AllByRecursion (AgreeAt one.far other.far) (flat_map keys_of_admin_rule rules) →
-    AllByRecursion (AgreeIn one.far other.far) (flat_map cidrs_of_rule rules) → AllByRecursion (IsAlikeAt one other) rules
-admin_rules-same one other same rules agree within =
-    let keys = All-flat (AgreeAt one.far other.far) keys_of_admin_rule rules agree in
-    let cidrs = All-flat (AgreeIn one.far other.far) cidrs_of_rule rules within in
-    All-weaker (λ rule. AllByRecursion (AgreeAt one.far other.far) (keys_of_admin_rule rule) × AllByRecursion (AgreeIn one.far other.far) (cidrs_of_rule rule)) (IsAlikeAt one other)
-    (λ rule on. admin_rule-same one other same rule on.0 on.1) rules (All-both _ _ rules keys cidrs)
+pub admin_rules-same : (one other : Contact) → SameContact one other → (rules : List AdminRule) → AllByRecursion (IsPeerAlike one other) (flat_map (λ rule. rule.peers) rules) →
+    AllByRecursion (IsAlikeAt one other) rules
+admin_rules-same one other same rules alike =
+    All-weaker (λ rule. AllByRecursion (IsPeerAlike one other) rule.peers) (IsAlikeAt one other) (admin_rule-same one other same) rules
+    (All-flat (IsPeerAlike one other) (λ rule. rule.peers) rules alike)

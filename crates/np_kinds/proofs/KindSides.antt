@@ -1,20 +1,21 @@
--- Pods and contacts that the side of a pod does not tell apart. For KindVerdicts and crates above.
+-- Pods and contacts that the side of a pod does not tell apart. For KindVerdicts.
 use Rattle.std.proofs.Common.{◌≡◌, List, [], ◌∷◌, ◌++◌, ◌&&◌, map, Option, Some, None, unwrap_or, refl, ap, ◌∙◌, if◌then◌else◌}
 use Rattle.std.specs.List.{AllByRecursion, enumerate_from, flat_map}
+use Rattle.std.specs.Option.{option_map_or}
 use Rattle.std.specs.Str.{bytes_eq}
 use Rattle.np_base.proofs.Each.{All-weaker, All-parts, All-append, All-if}
-use Rattle.np_fold.specs.Prelude.{cidrs_of_admin_policy, cidrs_of_base_policy, cidrs_of_baseline, cidrs_of_rule, keys_of_admin_policy, keys_of_admin_rule, keys_of_base_policy, keys_of_baseline, keys_of_net_direction, keys_of_net_policy, keys_of_net_rule, keys_of_selector, keys_of_subject}
+use Rattle.np_fold.specs.Prelude.{keys_of_net_direction, keys_of_net_policy, keys_of_net_rule, keys_of_selector, keys_of_subject}
 use Rattle.np_fold.proofs.SelectorLemmas.{selector-agree}
 use Rattle.np_rules.proofs.EachItem.{All-flat, All-numbered, All-three}
-use Rattle.np_kinds.proofs.KindPeers.{AgreeAt, AgreeIn, SamePod}
-use Rattle.np_kinds.proofs.KindRules.{IsAlikeAt, SameContact, admin_rules-same, net_rule-same}
+use Rattle.np_kinds.proofs.KindPeers.{AgreeAt, SamePod}
+use Rattle.np_kinds.proofs.KindRules.{SameContact, net_rule-same}
 use Rattle.np_labels.specs.Prelude.{AgreeOn, meets_selector}
 use Rattle.np_model.specs.declared.admin_policy.AdminPolicy.{AdminPolicy}
 use Rattle.np_model.specs.declared.admin_policy.BasePolicy.{BasePolicy}
 use Rattle.np_model.specs.declared.admin_policy.Subject.{Subject}
 use Rattle.np_kinds.specs.Prelude.{Direction, Egress, Ingress, NetRule}
 use Rattle.np_model.specs.declared.network_policy.NetPolicy.{NetPolicy}
-use Rattle.np_rules.specs.Prelude.{Contact, PlacedNetRule, PodEnd, admin_places, admin_places_of, admin_rules_of, base_places, base_rules_of, net_places, net_places_of, net_rules_of, net_selects, placed_net_matches, subject_selects}
+use Rattle.np_rules.specs.Prelude.{Contact, PlacedNetRule, PodEnd, admin_places, admin_places_of, base_places, base_rules_of, net_places, net_places_of, net_rules_of, net_selects, placed_net_matches, subject_selects}
 
 -- ---- which policies select
 
@@ -31,70 +32,23 @@ net-same p q same policy agree =
     ∙ ap (λ b. bytes_eq policy.namespace q.namespace && b) (selector-agree p.labels q.labels policy.subject parts.0)
 
 module _ (p q : PodEnd) (one other : Contact) (pods : SamePod p q) (same : SameContact one other) where
-  -- ---- admin policies
+  -- ---- admin policies and the baseline
 
-  admin_rules : (direction : Direction) (policy : AdminPolicy) → AllByRecursion (AgreeAt one.far other.far) (keys_of_admin_policy policy) →
-      AllByRecursion (AgreeIn one.far other.far) (cidrs_of_admin_policy policy) → AllByRecursion (IsAlikeAt one other) (admin_rules_of direction policy)
-  admin_rules direction policy agree within =
-      let keys = All-three (AgreeAt one.far other.far) (keys_of_subject policy.subject) (flat_map keys_of_admin_rule policy.ingress) (flat_map keys_of_admin_rule policy.egress) agree in
-      let cidrs = All-parts (AgreeIn one.far other.far) (flat_map cidrs_of_rule policy.ingress) (flat_map cidrs_of_rule policy.egress) within in
-      by direction (admin_rules-same one other same policy.ingress keys.1.0 cidrs.0) (admin_rules-same one other same policy.egress keys.1.1 cidrs.1)
-    where
-      by : (direction : Direction) → AllByRecursion (IsAlikeAt one other) policy.ingress → AllByRecursion (IsAlikeAt one other) policy.egress →
-          AllByRecursion (IsAlikeAt one other) (admin_rules_of direction policy)
-      by Ingress ingress egress = ingress
-      by Egress ingress egress = egress
-
-  pub admin_places-same : (direction : Direction) (policies : List AdminPolicy) → AllByRecursion (AgreeOn p.labels q.labels) (flat_map keys_of_admin_policy policies) →
+  pub admin_places-same : (direction : Direction) (policies : List AdminPolicy) →
+      AllByRecursion (λ subject. AllByRecursion (AgreeOn p.labels q.labels) (keys_of_subject subject)) (map (λ policy. policy.subject) policies) →
       admin_places policies direction p ≡ admin_places policies direction q
   admin_places-same direction [] agree = refl
   admin_places-same direction (policy ∷ policies) agree =
-      let parts = All-parts (AgreeOn p.labels q.labels) (keys_of_admin_policy policy) (flat_map keys_of_admin_policy policies) agree in
-      let subject = All-three (AgreeOn p.labels q.labels) (keys_of_subject policy.subject) (flat_map keys_of_admin_rule policy.ingress) (flat_map keys_of_admin_rule policy.egress) parts.0 in
-      ap (λ b. (if b then admin_places_of direction policy else []) ++ admin_places policies direction p) (subject-same p q pods policy.subject subject.0)
-      ∙ ap (λ rest. (if subject_selects policy.subject q then admin_places_of direction policy else []) ++ rest) (admin_places-same direction policies parts.1)
+      ap (λ b. (if b then admin_places_of direction policy else []) ++ admin_places policies direction p) (subject-same p q pods policy.subject agree.0)
+      ∙ ap (λ rest. (if subject_selects policy.subject q then admin_places_of direction policy else []) ++ rest) (admin_places-same direction policies agree.1)
 
-  pub admin_places-alike : (direction : Direction) (policies : List AdminPolicy) → AllByRecursion (AgreeAt one.far other.far) (flat_map keys_of_admin_policy policies) →
-      AllByRecursion (AgreeIn one.far other.far) (flat_map cidrs_of_admin_policy policies) → AllByRecursion (λ placed. IsAlikeAt one other placed.rule) (admin_places policies direction q)
-  admin_places-alike direction [] agree within = tt
-  admin_places-alike direction (policy ∷ policies) agree within =
-      let keys = All-parts (AgreeAt one.far other.far) (keys_of_admin_policy policy) (flat_map keys_of_admin_policy policies) agree in
-      let cidrs = All-parts (AgreeIn one.far other.far) (cidrs_of_admin_policy policy) (flat_map cidrs_of_admin_policy policies) within in
-      let here = All-numbered (IsAlikeAt one other) (λ placed. IsAlikeAt one other placed.rule) (λ numbered. record { policy = policy; place = numbered.0; rule = numbered.1 }) (λ numbered is. is) 0
-      (admin_rules_of direction policy) (admin_rules direction policy keys.0 cidrs.0) in
-      All-append (λ placed. IsAlikeAt one other placed.rule) (if subject_selects policy.subject q then admin_places_of direction policy else []) (admin_places policies direction q)
-      (All-if (λ placed. IsAlikeAt one other placed.rule) (subject_selects policy.subject q) (admin_places_of direction policy) here) (admin_places-alike direction policies keys.1 cidrs.1)
-
-  -- ---- the baseline
-
-  base_rules : (direction : Direction) (policy : BasePolicy) → AllByRecursion (AgreeAt one.far other.far) (keys_of_base_policy policy) →
-      AllByRecursion (AgreeIn one.far other.far) (cidrs_of_base_policy policy) → AllByRecursion (IsAlikeAt one other) (base_rules_of direction policy)
-  base_rules direction policy agree within =
-      let keys = All-three (AgreeAt one.far other.far) (keys_of_subject policy.subject) (flat_map keys_of_admin_rule policy.ingress) (flat_map keys_of_admin_rule policy.egress) agree in
-      let cidrs = All-parts (AgreeIn one.far other.far) (flat_map cidrs_of_rule policy.ingress) (flat_map cidrs_of_rule policy.egress) within in
-      by direction (admin_rules-same one other same policy.ingress keys.1.0 cidrs.0) (admin_rules-same one other same policy.egress keys.1.1 cidrs.1)
-    where
-      by : (direction : Direction) → AllByRecursion (IsAlikeAt one other) policy.ingress → AllByRecursion (IsAlikeAt one other) policy.egress →
-          AllByRecursion (IsAlikeAt one other) (base_rules_of direction policy)
-      by Ingress ingress egress = ingress
-      by Egress ingress egress = egress
-
-  pub base_places-same : (direction : Direction) (baseline : Option BasePolicy) → AllByRecursion (AgreeOn p.labels q.labels) (keys_of_baseline baseline) →
+  pub base_places-same : (direction : Direction) (baseline : Option BasePolicy) →
+      AllByRecursion (λ subject. AllByRecursion (AgreeOn p.labels q.labels) (keys_of_subject subject)) (option_map_or (λ base. base.subject ∷ []) baseline []) →
       base_places baseline direction p ≡ base_places baseline direction q
   base_places-same direction None agree = refl
   base_places-same direction (Some policy) agree =
-      let subject = All-three (AgreeOn p.labels q.labels) (keys_of_subject policy.subject) (flat_map keys_of_admin_rule policy.ingress) (flat_map keys_of_admin_rule policy.egress) agree in
       ap (λ b. if b then map (λ numbered. record { place = numbered.0; rule = numbered.1 }) (enumerate_from 0 (base_rules_of direction policy)) else [])
-      (subject-same p q pods policy.subject subject.0)
-
-  pub base_places-alike : (direction : Direction) (baseline : Option BasePolicy) → AllByRecursion (AgreeAt one.far other.far) (keys_of_baseline baseline) →
-      AllByRecursion (AgreeIn one.far other.far) (cidrs_of_baseline baseline) → AllByRecursion (λ placed. IsAlikeAt one other placed.rule) (base_places baseline direction q)
-  base_places-alike direction None agree within = tt
-  base_places-alike direction (Some policy) agree within =
-      All-if (λ placed. IsAlikeAt one other placed.rule) (subject_selects policy.subject q)
-      (map (λ numbered. record { place = numbered.0; rule = numbered.1 }) (enumerate_from 0 (base_rules_of direction policy)))
-      (All-numbered (IsAlikeAt one other) (λ placed. IsAlikeAt one other placed.rule) (λ numbered. record { place = numbered.0; rule = numbered.1 }) (λ numbered is. is) 0
-      (base_rules_of direction policy) (base_rules direction policy agree within))
+      (subject-same p q pods policy.subject agree.0)
 
   -- ---- NetworkPolicies
 

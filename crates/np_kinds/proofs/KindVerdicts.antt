@@ -1,6 +1,7 @@
 -- Packets that the verdict does not tell apart. For `kinds_give_the_deciders`, `kinds_give_the_rule_counts` and 2 more.
-use Rattle.std.proofs.Common.{◌≡◌, ℕ, List, ◌++◌, ◌&&◌, Option, Some, None, map, filter, is_some, refl, ap, subst, inl, inr, ◌∙◌, if◌then◌else◌}
+use Rattle.std.proofs.Common.{◌≡◌, ℕ, List, [], ◌∷◌, ◌++◌, ◌&&◌, Option, Some, None, map, filter, is_some, refl, ap, subst, inl, inr, ◌∙◌, if◌then◌else◌}
 use Rattle.std.specs.List.{AllByRecursion, find, flat_map, list_any}
+use Rattle.std.specs.Option.{option_map_or}
 use Rattle.std.proofs.lemmas.List.Elements.{recursion_from_All}
 use Rattle.np_labels.specs.Prelude.{AgreeOn}
 use Rattle.np_labels.proofs.Agreed.{All-from_listed}
@@ -8,11 +9,13 @@ use Rattle.np_base.proofs.Each.{All-weaker, All-parts}
 use Rattle.np_kinds.specs.Prelude.{AreOneKind, Direction, Egress, EstateLists, Family, Ingress, Pod, PortSpot}
 use Rattle.np_addr.specs.declared.address.Family.TheVariants.{Four}
 use Rattle.np_conns.specs.declared.proto.Proto.TheVariants.{Tcp}
-use Rattle.np_fold.specs.Prelude.{IsSameKind, cidrs_of_admin_policy, cidrs_of_baseline, cidrs_of_estate, keys_of_admin_policy, keys_of_baseline, keys_of_estate, keys_of_net_policy, keys_of_service}
-use Rattle.np_rules.proofs.EachItem.{All-each, All-three, filter-same, find-same, list_any-same}
+use Rattle.np_fold.specs.Prelude.{IsSameKind, admin_subjects, cidrs_of_estate, keys_of_admin_peer, keys_of_estate, keys_of_net_policy, keys_of_service, keys_of_subject}
+use Rattle.np_rules.proofs.EachItem.{All-each, All-flat, All-three, filter-same, find-same, list_any-same}
+use Rattle.np_rules.proofs.PlacedRules.{admin_places-all, base_places-all}
 use Rattle.np_kinds.proofs.KindPeers.{AgreeAt, AgreeIn, SameEnd, SamePod}
-use Rattle.np_kinds.proofs.KindRules.{SameContact}
-use Rattle.np_kinds.proofs.KindSides.{admin_places-alike, admin_places-same, base_places-alike, base_places-same, net_places-alike, net_places-same, net_selects-same}
+use Rattle.np_kinds.proofs.KindRules.{IsAlikeAt, SameContact, admin_peers-same, admin_rules-same}
+use Rattle.np_kinds.proofs.KindSides.{admin_places-same, base_places-same, net_places-alike, net_places-same, net_selects-same}
+use Rattle.np_model.specs.Prelude.{admin_peers, admin_rules}
 use Rattle.np_model.specs.declared.admin_policy.Action.{Action}
 use Rattle.np_model.specs.declared.admin_policy.Action.TheVariants.{Allow, Deny, Pass}
 use Rattle.np_rules.specs.Prelude.{Contact, ModelEnd, ModelPacket, PlacedAdminRule, PodEnd, action_decides, address, admin_decider, admin_decides, admin_places, admin_precedes, admin_rule_matches, admin_rule_name, admin_says, allows, base_decider, base_decides, base_places, base_says, contact_of, decider, end_allows, end_rule_count, is_isolated, isolates, isolating_names, least_by, lower_allows, lower_decider, net_decider, net_decides, net_places, net_policy_name, net_precedes, net_rules_of, net_selects, permits, placed_net_matches, pod, pod_end, side_allows}
@@ -24,15 +27,15 @@ use Rattle.np_rules.specs.declared.decider.RuleName.{RuleName}
 -- a fact of each kind of keys that policies name
 record OfPolicies (P : List ℕ → Type 0) (lists : EstateLists) : Type 0 where
   net : AllByRecursion P (flat_map keys_of_net_policy lists.net_policies)
-  admin : AllByRecursion P (flat_map keys_of_admin_policy lists.admin_policies)
-  base : AllByRecursion P (keys_of_baseline lists.baseline)
+  admin : AllByRecursion (λ subject. AllByRecursion P (keys_of_subject subject)) (map (λ policy. policy.subject) lists.admin_policies)
+  base : AllByRecursion (λ subject. AllByRecursion P (keys_of_subject subject)) (option_map_or (λ base. base.subject ∷ []) lists.baseline [])
+  peers : AllByRecursion P (flat_map keys_of_admin_peer (admin_peers lists.admin_policies lists.baseline))
 
 OfPolicies-from : (P : List ℕ → Type 0) (lists : EstateLists) → AllByRecursion P (keys_of_estate lists) → OfPolicies P lists
 OfPolicies-from P lists all =
-    let policies = (All-parts P (flat_map keys_of_net_policy lists.net_policies ++ flat_map keys_of_admin_policy lists.admin_policies ++ keys_of_baseline lists.baseline)
-    (flat_map keys_of_service lists.services) all).0 in
-    let parts = All-three P (flat_map keys_of_net_policy lists.net_policies) (flat_map keys_of_admin_policy lists.admin_policies) (keys_of_baseline lists.baseline) policies in
-    record { net = parts.0; admin = parts.1.0; base = parts.1.1 }
+    let parts = All-three P (flat_map keys_of_net_policy lists.net_policies) (flat_map keys_of_subject (admin_subjects lists)) _ (All-parts P _ (flat_map keys_of_service lists.services) all).0 in
+    let subjects = All-parts _ (map (λ policy. policy.subject) lists.admin_policies) _ (All-flat P keys_of_subject (admin_subjects lists) parts.1.0) in
+    record { net = parts.0; admin = subjects.0; base = subjects.1; peers = parts.1.1 }
 
 -- ---- sides
 
@@ -56,8 +59,11 @@ admin_decides-same (Some placed) lower lower' same = action_decides-same placed.
 
 module _ (lists : EstateLists) (direction : Direction) (p q : PodEnd) (one other : Contact) (pods : SamePod p q) (same : SameContact one other) (near : OfPolicies (AgreeOn p.labels q.labels) lists)
     (far : OfPolicies (AgreeAt one.far other.far) lists) (within : AllByRecursion (AgreeIn one.far other.far) (cidrs_of_estate lists)) where
-  cidrs : AllByRecursion (AgreeIn one.far other.far) (flat_map cidrs_of_admin_policy lists.admin_policies) × AllByRecursion (AgreeIn one.far other.far) (cidrs_of_baseline lists.baseline)
-  cidrs = All-parts (AgreeIn one.far other.far) (flat_map cidrs_of_admin_policy lists.admin_policies) (cidrs_of_baseline lists.baseline) within
+  alike : AllByRecursion (IsAlikeAt one other) (flat_map (λ policy. policy.ingress ++ policy.egress) lists.admin_policies) ×
+      AllByRecursion (IsAlikeAt one other) (option_map_or (λ base. base.ingress ++ base.egress) lists.baseline [])
+  alike =
+      let peers = admin_peers-same one other same (admin_peers lists.admin_policies lists.baseline) far.peers within in
+      All-parts (IsAlikeAt one other) _ _ (admin_rules-same one other same (admin_rules lists.admin_policies lists.baseline) peers)
 
   places : SamePlaces lists direction p q
   places = record {
@@ -70,13 +76,13 @@ module _ (lists : EstateLists) (direction : Direction) (p q : PodEnd) (one other
   admin-same =
       ap (λ all. least_by admin_precedes (filter (λ placed. admin_rule_matches placed.rule one) all)) places.admin
       ∙ ap (least_by admin_precedes) (filter-same (λ placed. admin_rule_matches placed.rule one) (λ placed. admin_rule_matches placed.rule other) (admin_places lists.admin_policies direction q)
-      (admin_places-alike p q one other pods same direction lists.admin_policies far.admin cidrs.0))
+      (admin_places-all (IsAlikeAt one other) direction q lists.admin_policies alike.0))
 
   base-same : base_decider lists.baseline direction p one ≡ base_decider lists.baseline direction q other
   base-same =
       ap (find (λ placed. admin_rule_matches placed.rule one)) places.base
       ∙ find-same (λ placed. admin_rule_matches placed.rule one) (λ placed. admin_rule_matches placed.rule other) (base_places lists.baseline direction q)
-      (base_places-alike p q one other pods same direction lists.baseline far.base cidrs.1)
+      (base_places-all (IsAlikeAt one other) direction q lists.baseline alike.1)
 
   isolates-same : AllByRecursion (λ policy. isolates direction p policy ≡ isolates direction q policy) lists.net_policies
   isolates-same = All-weaker (λ policy. net_selects policy p ≡ net_selects policy q) (λ policy. isolates direction p policy ≡ isolates direction q policy)

@@ -1,5 +1,6 @@
 pub mod Families
 pub mod Lawful
+pub mod Peers
 pub mod PodPlaces
 pub mod Prelude
 pub mod Types

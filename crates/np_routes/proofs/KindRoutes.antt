@@ -1,5 +1,5 @@
 -- Pods that no service and no rule tells apart. For ReachedLemmas and crates above.
-use Rattle.std.proofs.Common.{◌≡◌, ◌<◌, ℕ, List, [], ◌∷◌, ◌++◌, Bool, true, false, not, ◌&&◌, ◌==◌, Option, Some, None, IfSome, length, map, flat_map, slice_get, refl, sym, ap, subst, ◌∙◌, inl, inr, if◌then◌else◌}
+use Rattle.std.proofs.Common.{◌≡◌, ◌<◌, ℕ, List, [], ◌∷◌, Bool, true, false, not, ◌&&◌, ◌==◌, Option, Some, None, IfSome, length, map, flat_map, slice_get, refl, sym, ap, subst, ◌∙◌, inl, inr, if◌then◌else◌}
 use Rattle.std.specs.Prelude.{filter}
 use Rattle.std.specs.List.{AllByRecursion, find, list_any}
 use Rattle.std.specs.Option.{option_map_or}
@@ -10,7 +10,7 @@ use Rattle.np_conns.specs.Prelude.{same_proto}
 use Rattle.np_model.specs.Prelude.{IsLawful, families_of}
 use Rattle.np_fold.proofs.NamespaceLemmas.{labels_agree}
 use Rattle.np_fold.proofs.WorkloadLemmas.{one_workload}
-use Rattle.np_fold.specs.Prelude.{IsSameKind, keys_of_admin_policy, keys_of_baseline, keys_of_estate, keys_of_net_policy, keys_of_optional, keys_of_service, workload_number}
+use Rattle.np_fold.specs.Prelude.{IsSameKind, keys_of_estate, keys_of_optional, keys_of_service, workload_number}
 use Rattle.np_fold.proofs.SelectorLemmas.{selector-agree}
 use Rattle.np_labels.specs.Prelude.{AgreeOn, meets_selector}
 use Rattle.np_labels.specs.declared.selector.Selector.{Selector}
@@ -105,8 +105,7 @@ module _ (lists : EstateLists) (p q : PodEnd) (alike : AreServedAlike lists.serv
 served-pods : (lists : EstateLists) (a b : Pod) → IsSameKind lists a b → AreServedAlike lists.services (pod_end a) (pod_end b)
 served-pods lists a b kind =
     let all = All-from_listed (AgreeOn a.labels b.labels) (keys_of_estate lists) kind.labels in
-    let services = (All-parts (AgreeOn a.labels b.labels) (flat_map keys_of_net_policy lists.net_policies ++ flat_map keys_of_admin_policy lists.admin_policies ++ keys_of_baseline lists.baseline)
-    (flat_map keys_of_service lists.services) all).1 in
+    let services = (All-parts (AgreeOn a.labels b.labels) _ (flat_map keys_of_service lists.services) all).1 in
     record { namespace = kind.namespace; ports = kind.ports; labels = All-flat (AgreeOn a.labels b.labels) keys_of_service lists.services services }
 
 -- the pods at two places are of one kind, and the same ports of both are routed

@@ -11,6 +11,7 @@ pub mod AddressLemmas
 pub mod DeciderLemmas
 pub mod SideLemmas
 pub mod BlockPeers
+pub mod PlacedRules
 pub mod FamilyLemmas
 pub mod LayerRulesLemmas
 pub mod PolicyRulesLemmas

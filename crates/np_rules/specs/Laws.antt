@@ -1,9 +1,9 @@
 -- The words of the laws.
-use Rattle.std.specs.Prelude.{◌≡◌, ◌⊎◌, List, [], ◌∷◌, ◌++◌, Bool, false, ◌||◌}
+use Rattle.std.specs.Prelude.{◌≡◌, ◌⊎◌, List, [], ◌∷◌, ◌++◌, Bool}
 use Rattle.std.specs.List.{list_any}
-use Rattle.std.specs.Option.{option_map, option_map_or}
-use Rattle.np_rules.specs.Types.{AdminRule, Direction, Egress, EstateLists, Ingress, NetPolicy, NetRule}
-use Rattle.np_model.specs.Prelude.{is_networks}
+use Rattle.std.specs.Option.{option_map}
+use Rattle.np_rules.specs.Types.{Direction, Egress, EstateLists, Ingress, NetPolicy, NetRule}
+use Rattle.np_model.specs.Prelude.{admin_peers, is_networks}
 
 -- the item is one of the list
 abbrev pub IsAmong : {X : Type 0} → X → List X → Type 0
@@ -21,12 +21,6 @@ with_rule Egress rule policy = record policy { egress = option_map (λ rules. ru
 
 -- ---- networks
 
--- whether some peer of some rule lists networks
-abbrev pub rules_list_networks : List AdminRule → Bool
-rules_list_networks rules = list_any (λ rule. list_any is_networks rule.peers) rules
-
--- whether some rule of an admin policy or of the baseline lists networks
+-- whether some peer of a rule of an admin policy or of the baseline lists networks
 abbrev pub has_networks : EstateLists → Bool
-has_networks lists =
-    list_any (λ policy. rules_list_networks policy.ingress || rules_list_networks policy.egress) lists.admin_policies
-    || option_map_or (λ policy. rules_list_networks policy.ingress || rules_list_networks policy.egress) lists.baseline false
+has_networks lists = list_any is_networks (admin_peers lists.admin_policies lists.baseline)

@@ -3,7 +3,7 @@ pub use Rattle.np_rules.specs.AddressRules.{admin_rule_of_addresses, is_block, i
 pub use Rattle.np_rules.specs.BlockFamilies.{is_block_of, some_inside}
 pub use Rattle.np_rules.specs.Deciders.{action_decides, admin_decides, admin_rule_name, base_decides, base_rule_name, decider, decider_allows, isolating_names, lower_decider, net_decider, net_decides, net_policy_name, net_precedes, net_rule_name}
 pub use Rattle.np_rules.specs.EveryAddress.{AddressSpot, address_contact, address_of, admin_peer_has, every_contact, has_address_spot, is_address_spot, net_peer_has, spot_of}
-pub use Rattle.np_rules.specs.Laws.{IsAmong, has_networks, rules_list_networks, with_net_policies, with_rule}
+pub use Rattle.np_rules.specs.Laws.{IsAmong, has_networks, with_net_policies, with_rule}
 pub use Rattle.np_rules.specs.LayerRules.{NamesAdmin, NamesBase, NamesNet, ids_from}
 pub use Rattle.np_rules.specs.Layers.{IsAdminPart, IsBasePart, IsLayer, IsSetOf, Pairwise, matches_of, tier_action}
 pub use Rattle.np_rules.specs.OneEnd.{one_contact}
