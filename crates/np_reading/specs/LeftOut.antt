@@ -1,5 +1,5 @@
 -- What is left out of the estate, and counted.
-use Rattle.std.specs.Prelude.{ℕ, List, length, ◌==◌, Bool, true, false, ◌&&◌, ◌||◌, if◌then◌else◌, Option, Some, None}
+use Rattle.std.specs.Prelude.{ℕ, List, length, ◌==◌, Bool, true, false, ◌&&◌, if◌then◌else◌, Option, Some, None}
 use Rattle.std.specs.List.{count_by, list_any, range_with_len, slice_get}
 use Rattle.std.specs.Option.{option_and_then, option_map_or}
 use Rattle.np_reading.specs.Ends.{is_on_host}
@@ -7,8 +7,7 @@ use Rattle.np_reading.specs.Types.{AdminPolicy, BasePolicy, Finished, Host, Item
 use Rattle.np_items.specs.declared.item.Item.TheVariants as item
 use Rattle.np_objects.specs.declared.object.Object.TheVariants as object
 use Rattle.np_owners.specs.Prelude.{makes_pod}
-use Rattle.np_model.specs.declared.admin_policy.AdminRule.{AdminRule}
-use Rattle.np_model.specs.Prelude.{is_networks}
+use Rattle.np_model.specs.Prelude.{admin_peers, is_networks}
 
 -- Why an item is left out, if it is one that is counted; `makes` says whether it is a controller that stands for a pod. A pod that is
 -- on the network of its node and finished counts for the first alone.
@@ -34,14 +33,9 @@ count_left_out items why = count_by (is_left_out items why) (range_with_len 0 (l
 
 -- ---- pods that no peer of networks matches
 
--- whether some rule has a peer of networks
-abbrev pub some_lists_networks : List AdminRule → Bool
-some_lists_networks rules = list_any (λ rule. list_any is_networks rule.peers) rules
-
 -- whether some admin policy or the baseline has a peer of networks
 abbrev pub list_networks : List AdminPolicy → Option BasePolicy → Bool
-list_networks policies baseline = list_any (λ policy. some_lists_networks policy.ingress || some_lists_networks policy.egress) policies
-    || option_map_or (λ base. some_lists_networks base.ingress || some_lists_networks base.egress) baseline false
+list_networks policies baseline = list_any is_networks (admin_peers policies baseline)
 
 -- the pods without an address, where there is a peer of networks, and none where there is not
 abbrev pub unaddressed : List Pod → List AdminPolicy → Option BasePolicy → ℕ

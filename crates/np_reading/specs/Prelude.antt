@@ -1,7 +1,7 @@
 -- The definitions and types of this crate that its proofs and the crates above speak of, one import line a file.
 pub use Rattle.np_reading.specs.EachOnce.{HoldsEachOnce, IsOfItsItem}
 pub use Rattle.np_reading.specs.Ends.{context, context_at, context_of, contexts_from, contexts_of, gives_end, is_on_host, listed_pod, made_pod, pod_at_item, pod_of_item, pod_of_object, pods_from, pods_of}
-pub use Rattle.np_reading.specs.LeftOut.{count_left_out, is_for, is_left_out, left_out, list_networks, some_lists_networks, unaddressed}
+pub use Rattle.np_reading.specs.LeftOut.{count_left_out, is_for, is_left_out, left_out, list_networks, unaddressed}
 pub use Rattle.np_reading.specs.Listed.{admin_policies_of, admin_policy_in, base_policy_in, baseline_of, compare_ranks, first_equal, first_item, have_priorities_apart, ingress_in, ingresses_from, ingresses_of, net_name, net_policies_of, net_policy_in, placed, rank_of, rank_too, ranks_of, service_in, services_of, with_admin, with_net, with_rank}
 pub use Rattle.np_reading.specs.Namespaces.{labels_in, listed_labels, name_label, namespace_labels, namespace_name}
 pub use Rattle.np_reading.specs.Reading.{estate_of_items, have_names_apart, have_no_cycle, notes_of}

@@ -1,5 +1,5 @@
 //! What is left out of an estate, and counted.
-ghost use Rattle.std.specs.Prelude.{◌≡◌, ◌≤◌, false, length, ◌==◌, ◌||◌};
+ghost use Rattle.std.specs.Prelude.{◌≡◌, ◌≤◌, false, length, ◌==◌, map, IfOk};
 ghost use Rattle.std.specs.List.{list_any};
 ghost use Rattle.std.specs.Option.{option_copied, option_map_or};
 ghost use Rattle.np_reading.specs.LeftOut as spec;
@@ -7,9 +7,11 @@ ghost use Rattle.np_owners.specs.MadePods as made_pods;
 ghost use Rattle.np_model.specs.Prelude.{is_networks};
 
 use crate::context::is_on_host;
+use np_base::NoMemory;
 use np_items::Item;
-use np_model::{AdminPeer, AdminPolicy, AdminRule, BasePolicy, Pod};
+use np_model::{AdminPeer, AdminPolicy, BasePolicy, Pod, admin_peers};
 use np_objects::Object;
+use std::alloc::Global;
 
 /// Why an item is left out.
 #[derive(Clone, Copy, PartialEq, Eq)]
@@ -66,17 +68,30 @@ fn left_out(makes: bool, item: &Item) -> Option<LeftOut>
 
 /// How many pods have no address, where some policy lists networks, which match none of them, and else 0.
 pub(crate) fn unaddressed(
+    alloc: Global,
     pods: &[Pod],
     policies: &[AdminPolicy],
     baseline: Option<&BasePolicy>,
-) -> u64
-    ensures { result ≡ spec.unaddressed pods.now policies.now (option_copied baseline.entry) }
+) -> Result<u64, NoMemory>
+    ensures { IfOk result (λ count. count ≡ spec.unaddressed pods.now policies.now (option_copied baseline.entry)) }
 {
-    if list_networks(policies, baseline) {
-        pods.iter().filter(|pod| has_no_address(pod)).count() as u64
+    if list_networks(&admin_peers(alloc, policies, baseline)?) {
+        Ok(pods.iter().filter(|pod| has_no_address(pod)).count() as u64)
     } else {
-        0
+        Ok(0)
     }
+}
+
+// Whether some peer lists networks.
+fn list_networks(peers: &[&AdminPeer]) -> bool
+    ensures { result ≡ list_any is_networks (map (λ peer. peer.now) peers.now) }
+{
+    for peer in peers {
+        if matches!(peer, AdminPeer::Networks { .. }) {
+            return true;
+        }
+    }
+    false
 }
 
 // Whether a pod has no address.
@@ -84,53 +99,4 @@ fn has_no_address(pod: &Pod) -> bool
     ensures { result ≡ (length pod.now.addresses == 0) }
 {
     pod.addresses.items().is_empty()
-}
-
-// Whether some admin policy or the baseline has a peer of networks.
-fn list_networks(policies: &[AdminPolicy], baseline: Option<&BasePolicy>) -> bool
-    ensures { result ≡ spec.list_networks policies.now (option_copied baseline.entry) }
-{
-    admins_list_networks(policies) || base_lists_networks(baseline)
-}
-
-// Whether some admin policy has a peer of networks.
-fn admins_list_networks(policies: &[AdminPolicy]) -> bool
-    ensures { result ≡ list_any (λ policy. spec.some_lists_networks policy.ingress || spec.some_lists_networks policy.egress) policies.now }
-{
-    policies.iter().any(|policy| rules_list_networks(policy.ingress.items(), policy.egress.items()))
-}
-
-// Whether the baseline has a peer of networks.
-fn base_lists_networks(baseline: Option<&BasePolicy>) -> bool
-    ensures { result ≡ option_map_or (λ base. spec.some_lists_networks base.ingress || spec.some_lists_networks base.egress)
-        (option_copied baseline.entry) false }
-{
-    match baseline {
-        Some(base) => rules_list_networks(base.ingress.items(), base.egress.items()),
-        None => false,
-    }
-}
-
-// Whether some rule of either direction has a peer of networks.
-fn rules_list_networks(ingress: &[AdminRule], egress: &[AdminRule]) -> bool
-    ensures { result ≡ spec.some_lists_networks ingress.now || spec.some_lists_networks egress.now }
-{
-    some_lists_networks(ingress) || some_lists_networks(egress)
-}
-
-// Whether some rule has a peer of networks.
-fn some_lists_networks(rules: &[AdminRule]) -> bool
-    ensures { result ≡ spec.some_lists_networks rules.now }
-{
-    rules.iter().any(|rule| lists_networks(rule))
-}
-
-// Whether a rule has a peer of networks.
-fn lists_networks(rule: &AdminRule) -> bool
-    ensures { result ≡ list_any is_networks rule.now.peers }
-{
-    rule.peers
-        .items()
-        .iter()
-        .any(|peer| matches!(peer, AdminPeer::Networks { .. }))
 }

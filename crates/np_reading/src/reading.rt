@@ -63,10 +63,11 @@ fn in_order(alloc: Global, gathered: GroupedItems, notes: Notes) -> Result<Estat
 {
     let admin_policies = Seq::from_vec(gathered.admin_policies.into_values().collect(alloc)?);
     let unaddressed = unaddressed(
+        alloc,
         gathered.pods.items(),
         admin_policies.items(),
         gathered.baseline.as_ref(),
-    );
+    )?;
     Ok(EstateLists {
         pods: gathered.pods,
         net_policies: Seq::from_vec(gathered.net_policies.into_values().collect(alloc)?),
