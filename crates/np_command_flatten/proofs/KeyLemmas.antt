@@ -103,10 +103,11 @@ baseline-well : (baseline : Option BasePolicy) → option_map_or is_well_base_po
 baseline-well None well = (refl, refl)
 baseline-well (Some policy) well =
     let egress = and_parts _ (list_all is_well_base_rule policy.egress) well in
-    let ingress = and_parts (is_well_subject policy.subject) (list_all is_well_base_rule policy.ingress) egress.0 in
-    (and_from (is_well_subject policy.subject) true ingress.0 refl,
-    all-more is_well_base_rule is_well_admin_rule (λ rule all. (and_parts (is_decision rule.action) (is_well_admin_rule rule) all).1) (policy.ingress ++ policy.egress)
-    (list_all-both is_well_base_rule policy.ingress policy.egress ingress.1 egress.1))
+    let ingress = and_parts (is_well_subject policy.subject) (list_all is_well_base_rule policy.ingress) egress.0 in (
+      and_from (is_well_subject policy.subject) true ingress.0 refl,
+      all-more is_well_base_rule is_well_admin_rule (λ rule all. (and_parts (is_decision rule.action) (is_well_admin_rule rule) all).1) (policy.ingress ++ policy.egress)
+          (list_all-both is_well_base_rule policy.ingress policy.egress ingress.1 egress.1),
+    )
 
 rule-peers : (rule : AdminRule) → is_well_admin_rule rule ≡ true → list_all is_well_admin_peer rule.peers ≡ true
 rule-peers rule well = (and_parts _ (list_all is_well_admin_peer rule.peers) (and_parts _ (list_all is_well_admin_port rule.ports) well).0).1
