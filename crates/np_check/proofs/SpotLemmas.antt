@@ -1,4 +1,4 @@
--- The first protocol and port that pass a test. For `Asked::first_broken`, `first_of_proto` and `first_spot`.
+-- The first protocol and port that pass a test. For `Claim::first_broken`, `first_of_proto` and `first_spot`.
 use Rattle.std.proofs.Common.{◌≡◌, ℕ, ◌+◌, ◌<◌, ◌≤◌, List, [], ◌∷◌, Bool, true, ◌&&◌, not, nat_le, Option, Some, None, option_map, refl, sym, ap, ◌∙◌, arith}
 use Rattle.std.specs.List.{slice_get}
 use Rattle.std.specs.Option.{option_or}

@@ -12,8 +12,8 @@ ghost use Rattle.np_table.specs.Prelude.{rows_of_addresses};
 ghost use Rattle.np_fold.specs.Prelude.{folding_of};
 ghost use Rattle.np_kinds.specs.Prelude.{IsWorkload, address_allows};
 
-use crate::asked::Asked;
 use crate::checker::Checker;
+use crate::claim::Claim;
 use crate::counterexample::{Counterexample, PlaceEnd};
 use crate::order::comes_before;
 use np_addr::{AddrSet, Address, family_of};
@@ -25,20 +25,20 @@ use np_table::{AddressRow, AddressSpan};
 /// The first packet from a workload to the addresses of a set that breaks a statement.
 pub(crate) fn first_to_addresses(
     checker: &mut Checker<'_>,
-    asked: &Asked<'_>,
+    claim: &Claim<'_>,
     source: u32,
     block: &AddrSet,
 ) -> Result<Option<Counterexample>, NoMemory>
     requires { IsWorkload checker.old source }
     ensures counterexample { IfOk result (λ made. made ≡ first_given
-        (λ address. counterexample_between checker.old asked.now.wanted asked.now.conns.now (Work source) (At address))
+        (λ address. counterexample_between checker.old claim.now.wanted claim.now.conns.now (Work source) (At address))
         (addresses_of block.now)) }
     ensures same { checker.new ≡ checker.old }
 {
     if block.is_empty() {
         return Ok(None);
     }
-    let Some(broken) = first_with(checker, asked, source, Direction::Egress, block)? else {
+    let Some(broken) = first_with(checker, claim, source, Direction::Egress, block)? else {
         return Ok(None);
     };
     Ok(Some(Counterexample {
@@ -53,14 +53,14 @@ pub(crate) fn first_to_addresses(
 /// workload. For each workload the first address is found, and of these the first is taken.
 pub(crate) fn first_from_addresses(
     checker: &mut Checker<'_>,
-    asked: &Asked<'_>,
+    claim: &Claim<'_>,
     block: &AddrSet,
     destinations: &[u32],
 ) -> Result<Option<Counterexample>, NoMemory>
     requires { All (IsWorkload checker.old) destinations.now }
     ensures counterexample { IfOk result (λ made. made ≡ first_given
         (λ address. first_given
-        (λ destination. counterexample_between checker.old asked.now.wanted asked.now.conns.now (At address) (Work destination))
+        (λ destination. counterexample_between checker.old claim.now.wanted claim.now.conns.now (At address) (Work destination))
         destinations.now) (addresses_of block.now)) }
     ensures same { checker.new ≡ checker.old }
 {
@@ -69,7 +69,7 @@ pub(crate) fn first_from_addresses(
         return Ok(first);
     }
     for destination in destinations {
-        let found = first_from(checker, asked, block, *destination)?;
+        let found = first_from(checker, claim, block, *destination)?;
         first = earlier(first, found);
     }
     Ok(first)
@@ -78,18 +78,18 @@ pub(crate) fn first_from_addresses(
 // The first packet from the addresses of a set to a workload that breaks a statement.
 fn first_from(
     checker: &mut Checker<'_>,
-    asked: &Asked<'_>,
+    claim: &Claim<'_>,
     block: &AddrSet,
     destination: u32,
 ) -> Result<Option<Counterexample>, NoMemory>
     requires destination { IsWorkload checker.old destination }
     requires block { IsAddressSet block.now }
     ensures counterexample { IfOk result (λ made. made ≡ first_given
-        (λ address. counterexample_between checker.old asked.now.wanted asked.now.conns.now (At address) (Work destination))
+        (λ address. counterexample_between checker.old claim.now.wanted claim.now.conns.now (At address) (Work destination))
         (addresses_of block.now)) }
     ensures same { checker.new ≡ checker.old }
 {
-    let Some(broken) = first_with(checker, asked, destination, Direction::Ingress, block)? else {
+    let Some(broken) = first_with(checker, claim, destination, Direction::Ingress, block)? else {
         return Ok(None);
     };
     Ok(Some(Counterexample {
@@ -108,19 +108,19 @@ fn earlier(first: Option<Counterexample>, found: Option<Counterexample>) -> Opti
         None => first,
         Some(counterexample) => match first {
             None => Some(counterexample),
-            Some(kept) => Some(earlier_of(kept, counterexample)),
+            Some(first) => Some(earlier_of(first, counterexample)),
         },
     }
 }
 
 // The same of two that are there.
-fn earlier_of(kept: Counterexample, counterexample: Counterexample) -> Counterexample
-    ensures { result ≡ spec.earlier_of kept counterexample }
+fn earlier_of(first: Counterexample, second: Counterexample) -> Counterexample
+    ensures { result ≡ spec.earlier_of first second }
 {
-    if comes_before(&counterexample.source, &kept.source) {
-        counterexample
+    if comes_before(&second.source, &first.source) {
+        second
     } else {
-        kept
+        first
     }
 }
 
@@ -135,33 +135,33 @@ pub(crate) struct BreakingAddress {
 // found once for workloads whose sides are the same.
 fn first_with(
     checker: &mut Checker<'_>,
-    asked: &Asked<'_>,
+    claim: &Claim<'_>,
     work: u32,
     direction: Direction,
     block: &AddrSet,
 ) -> Result<Option<BreakingAddress>, NoMemory>
     requires work { IsWorkload checker.old work }
     requires block { IsAddressSet block.now }
-    ensures broken { IfOk result (λ made. made ≡ spec.first_broken_of asked.now.wanted asked.now.conns.now block.now
+    ensures broken { IfOk result (λ made. made ≡ spec.first_broken_of claim.now.wanted claim.now.conns.now block.now
         (address_allows checker.old (folding_of checker.old) work direction)) }
     ensures same { checker.new ≡ checker.old }
 {
     let rows = checker.find_addresses(work, direction)?;
-    first_broken(asked, rows.items(), block)
+    first_broken(claim, rows.items(), block)
 }
 
 // The first address of a set with which a packet breaks a statement, by what passes with each range of addresses.
 fn first_broken(
-    asked: &Asked<'_>,
+    claim: &Claim<'_>,
     rows: &[AddressRow],
     block: &AddrSet,
 ) -> Result<Option<BreakingAddress>, NoMemory>
     requires { IsAddressSet block.now }
     ensures { (passes : Family → ℕ → PortSpot → Bool) → rows.now ≡ rows_of_addresses passes →
-        IfOk result (λ made. made ≡ spec.first_broken_of asked.now.wanted asked.now.conns.now block.now passes) }
+        IfOk result (λ made. made ≡ spec.first_broken_of claim.now.wanted claim.now.conns.now block.now passes) }
 {
     for row in rows {
-        let found = first_broken_in(asked, row, block)?;
+        let found = first_broken_in(claim, row, block)?;
         if found.is_some() {
             return Ok(found);
         }
@@ -171,16 +171,16 @@ fn first_broken(
 
 // The same in one range.
 fn first_broken_in(
-    asked: &Asked<'_>,
+    claim: &Claim<'_>,
     row: &AddressRow,
     block: &AddrSet,
 ) -> Result<Option<BreakingAddress>, NoMemory>
-    ensures { IfOk result (λ made. made ≡ spec.broken_in asked.now.wanted asked.now.conns.now block.now row.now) }
+    ensures { IfOk result (λ made. made ≡ spec.broken_in claim.now.wanted claim.now.conns.now block.now row.now) }
 {
     let Some(address) = first_within(block, row.span) else {
         return Ok(None);
     };
-    let Some(spot) = asked.first_broken(&row.conns)? else {
+    let Some(spot) = claim.first_broken(&row.conns)? else {
         return Ok(None);
     };
     Ok(Some(BreakingAddress { address, spot }))

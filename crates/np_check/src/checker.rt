@@ -9,8 +9,8 @@ ghost use Rattle.np_conns.specs.Prelude.{conns_of};
 ghost use Rattle.np_kinds.specs.Prelude.{IsWorkload, is_alone, pair_allows};
 
 use crate::addresses::first_from_addresses;
-use crate::asked::Asked;
 use crate::checking::first_from_works;
+use crate::claim::Claim;
 use crate::counterexample::Counterexample;
 use crate::statement::Statement;
 use np_addr::Family;
@@ -93,15 +93,15 @@ impl<'a> Checker<'a> {
         let sources = question.source.works.items();
         let destinations = question.destination.works.items();
         self.expect(sources.len() as u64, destinations.len() as u64)?;
-        let asked = Asked {
+        let claim = Claim {
             wanted: question.wanted,
             conns: &question.conns,
         };
-        let found = first_from_works(self, &asked, sources, &question.destination)?;
+        let found = first_from_works(self, &claim, sources, &question.destination)?;
         if found.is_some() {
             return Ok(found);
         }
-        first_from_addresses(self, &asked, &question.source.block, destinations)
+        first_from_addresses(self, &claim, &question.source.block, destinations)
     }
 
     // Counts the pairs of a statement, and finds out which kinds may send anything to which once they are many.

@@ -2,9 +2,9 @@
 #![tactic(auto)]
 
 mod addresses;
-mod asked;
 mod checker;
 mod checking;
+mod claim;
 mod counterexample;
 mod laws;
 mod order;

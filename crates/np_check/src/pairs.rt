@@ -5,8 +5,8 @@ ghost use Rattle.np_check.specs.declared.counterexample.PlaceEnd.TheVariants.{Wo
 ghost use Rattle.np_fold.specs.Prelude.{folding_of};
 ghost use Rattle.np_kinds.specs.Prelude.{IsWorkload, is_alone};
 
-use crate::asked::Asked;
 use crate::checker::Checker;
+use crate::claim::Claim;
 use crate::counterexample::{Counterexample, PlaceEnd};
 use np_addr::Family;
 use np_base::NoMemory;
@@ -21,22 +21,22 @@ pub(crate) type Settled = HashSet<(u32, u32)>;
 /// their kinds, so it is asked once for two kinds.
 pub(crate) fn first_to_works(
     checker: &mut Checker<'_>,
-    asked: &Asked<'_>,
+    claim: &Claim<'_>,
     source: u32,
     destinations: &[u32],
     settled: &mut Settled,
 ) -> Result<Option<Counterexample>, NoMemory>
     requires source { IsWorkload checker.old source }
     requires destinations { All (IsWorkload checker.old) destinations.now }
-    requires settled { AreSettled checker.old asked.now.wanted asked.now.conns.now settled.old.keys }
+    requires settled { AreSettled checker.old claim.now.wanted claim.now.conns.now settled.old.keys }
     ensures counterexample { IfOk result (λ made. made ≡ first_given
-        (λ destination. counterexample_between checker.old asked.now.wanted asked.now.conns.now (Work source) (Work destination))
+        (λ destination. counterexample_between checker.old claim.now.wanted claim.now.conns.now (Work source) (Work destination))
         destinations.now) }
     ensures same { checker.new ≡ checker.old }
-    ensures settled { AreSettled checker.new asked.now.wanted asked.now.conns.now settled.new.keys }
+    ensures settled { AreSettled checker.new claim.now.wanted claim.now.conns.now settled.new.keys }
 {
     for destination in destinations {
-        let found = first_to_work(checker, asked, source, *destination, settled)?;
+        let found = first_to_work(checker, claim, source, *destination, settled)?;
         if found.is_some() {
             return Ok(found);
         }
@@ -48,20 +48,20 @@ pub(crate) fn first_to_works(
 // not at all breaks no statement that denies, and is not kept.
 fn first_to_work(
     checker: &mut Checker<'_>,
-    asked: &Asked<'_>,
+    claim: &Claim<'_>,
     source: u32,
     destination: u32,
     settled: &mut Settled,
 ) -> Result<Option<Counterexample>, NoMemory>
     requires source { IsWorkload checker.old source }
     requires destination { IsWorkload checker.old destination }
-    requires settled { AreSettled checker.old asked.now.wanted asked.now.conns.now settled.old.keys }
+    requires settled { AreSettled checker.old claim.now.wanted claim.now.conns.now settled.old.keys }
     ensures counterexample { IfOk result (λ made. made
-        ≡ counterexample_between checker.old asked.now.wanted asked.now.conns.now (Work source) (Work destination)) }
+        ≡ counterexample_between checker.old claim.now.wanted claim.now.conns.now (Work source) (Work destination)) }
     ensures same { checker.new ≡ checker.old }
-    ensures settled { AreSettled checker.new asked.now.wanted asked.now.conns.now settled.new.keys }
+    ensures settled { AreSettled checker.new claim.now.wanted claim.now.conns.now settled.new.keys }
 {
-    let denied = asked.denies();
+    let denied = claim.denies();
     if denied && checker.is_silent(source, destination) {
         return Ok(None);
     }
@@ -70,7 +70,7 @@ fn first_to_work(
     if settled.contains(&kinds) {
         return Ok(None);
     }
-    let found = first_between(checker, asked, source, destination)?;
+    let found = first_between(checker, claim, source, destination)?;
     if found.is_none() && source != destination {
         settled.insert(kinds)?;
     }
@@ -80,14 +80,14 @@ fn first_to_work(
 // The first packet from a workload to another that breaks a statement, by family.
 fn first_between(
     checker: &mut Checker<'_>,
-    asked: &Asked<'_>,
+    claim: &Claim<'_>,
     source: u32,
     destination: u32,
 ) -> Result<Option<Counterexample>, NoMemory>
     requires source { IsWorkload checker.old source }
     requires destination { IsWorkload checker.old destination }
     ensures counterexample { IfOk result (λ made. made
-        ≡ counterexample_between checker.old asked.now.wanted asked.now.conns.now (Work source) (Work destination)) }
+        ≡ counterexample_between checker.old claim.now.wanted claim.now.conns.now (Work source) (Work destination)) }
     ensures same { checker.new ≡ checker.old }
 {
     let folded = checker.folded();
@@ -95,7 +95,7 @@ fn first_between(
         return Ok(None);
     }
     for family in folded.estate().families() {
-        let found = first_in(checker, asked, source, destination, *family)?;
+        let found = first_in(checker, claim, source, destination, *family)?;
         if found.is_some() {
             return Ok(found);
         }
@@ -114,7 +114,7 @@ fn is_alone(workloads: &Workloads, source: u32, destination: u32) -> bool
 // The first packet of a family from a workload to another that breaks a statement.
 fn first_in(
     checker: &mut Checker<'_>,
-    asked: &Asked<'_>,
+    claim: &Claim<'_>,
     source: u32,
     destination: u32,
     family: Family,
@@ -123,11 +123,11 @@ fn first_in(
     requires destination { IsWorkload checker.old destination }
     requires apart { is_alone (folding_of checker.old) source destination ≡ false }
     ensures counterexample { IfOk result (λ made. made
-        ≡ counterexample_in checker.old asked.now.wanted asked.now.conns.now (Work source) (Work destination) family) }
+        ≡ counterexample_in checker.old claim.now.wanted claim.now.conns.now (Work source) (Work destination) family) }
     ensures same { checker.new ≡ checker.old }
 {
     let passes = checker.passing(source, destination, family)?;
-    let Some(spot) = asked.first_broken(&passes)? else {
+    let Some(spot) = claim.first_broken(&passes)? else {
         return Ok(None);
     };
     Ok(Some(Counterexample {

@@ -62,12 +62,12 @@ pub(crate) fn reply<O: Sink, L: Ledger>(
             side,
             ..
         } => {
-            let asked = listing_of(folded, controller, focus, *side)?;
-            let told = Presentation {
+            let listing = listing_of(folded, controller, focus, *side)?;
+            let presentation = Presentation {
                 format: *format,
                 report: *report,
             };
-            list(alloc, folded, asked, told, out, steps)?;
+            list(alloc, folded, listing, presentation, out, steps)?;
         }
         Job::Explain { from, to, .. } => explain(alloc, folded, from, to, out)?,
         Job::Exposure {

@@ -57,14 +57,14 @@ pub fn evaluate<O: Sink>(
     let destination = end_of(alloc, estate, words.to)?;
     let from = end_text(alloc, words.from)?;
     must_be_apart(source, destination, &from)?;
-    let asked = AskedPacket {
+    let packet = AskedPacket {
         source,
         destination,
         from,
         to: end_text(alloc, words.to)?,
         spot: words.spot,
     };
-    let lines = verdict_lines(alloc, estate, &asked)?;
+    let lines = verdict_lines(alloc, estate, &packet)?;
     write_whole(out, lines.as_bytes())?;
     Ok(())
 }
@@ -162,55 +162,55 @@ fn are_one_pod(source: End, destination: End) -> bool
 
 // The lines of a packet in the families that are asked about.
 #[tactic(auto, unfolding(crate::specs::Report::verdict_lines))]
-fn verdict_lines(alloc: Global, estate: &Estate, asked: &AskedPacket) -> Result<String, NoMemory>
-    requires source { IsEndOf estate.now asked.now.source }
-    requires destination { IsEndOf estate.now asked.now.destination }
+fn verdict_lines(alloc: Global, estate: &Estate, packet: &AskedPacket) -> Result<String, NoMemory>
+    requires source { IsEndOf estate.now packet.now.source }
+    requires destination { IsEndOf estate.now packet.now.destination }
     ensures { IfOk result (λ text. string_bytes text
-        ≡ spec.verdict_lines estate.now asked.now.from asked.now.to asked.now.spot asked.now.source asked.now.destination) }
+        ≡ spec.verdict_lines estate.now packet.now.from packet.now.to packet.now.spot packet.now.source packet.now.destination) }
 {
-    if let Some(family) = family_asked(estate, asked.source, asked.destination) {
-        let verdict = is_allowed(estate, asked, family);
-        return verdict_line(alloc, asked, None, verdict);
+    if let Some(family) = family_asked(estate, packet.source, packet.destination) {
+        let verdict = is_allowed(estate, packet, family);
+        return verdict_line(alloc, packet, None, verdict);
     }
-    let four = is_allowed(estate, asked, Family::Four);
-    let six = is_allowed(estate, asked, Family::Six);
+    let four = is_allowed(estate, packet, Family::Four);
+    let six = is_allowed(estate, packet, Family::Six);
     if four == six {
-        return verdict_line(alloc, asked, None, four);
+        return verdict_line(alloc, packet, None, four);
     }
-    let first = verdict_line(alloc, asked, Some(Family::Four), four)?;
-    let second = verdict_line(alloc, asked, Some(Family::Six), six)?;
+    let first = verdict_line(alloc, packet, Some(Family::Four), four)?;
+    let second = verdict_line(alloc, packet, Some(Family::Six), six)?;
     Ok(format!(in alloc; "{first}{second}")?)
 }
 
 // Whether the packet of a family is allowed.
-fn is_allowed(estate: &Estate, asked: &AskedPacket, family: Family) -> bool
-    requires source { IsEndOf estate.now asked.now.source }
-    requires destination { IsEndOf estate.now asked.now.destination }
+fn is_allowed(estate: &Estate, packet: &AskedPacket, family: Family) -> bool
+    requires source { IsEndOf estate.now packet.now.source }
+    requires destination { IsEndOf estate.now packet.now.destination }
     ensures { result
-        ≡ passes_between estate.now asked.now.source asked.now.destination family asked.now.spot }
+        ≡ passes_between estate.now packet.now.source packet.now.destination family packet.now.spot }
 {
-    let packet = Packet {
-        source: asked.source,
-        destination: asked.destination,
+    let of_family = Packet {
+        source: packet.source,
+        destination: packet.destination,
         family,
-        proto: asked.spot.proto,
-        port: asked.spot.port,
+        proto: packet.spot.proto,
+        port: packet.spot.port,
     };
-    allows(estate, &packet)
+    allows(estate, &of_family)
 }
 
 // A line, with the mark of a family behind the destination.
 #[tactic(auto, unfolding(crate::specs::Report::verdict_line))]
 fn verdict_line(
     alloc: Global,
-    asked: &AskedPacket,
+    packet: &AskedPacket,
     mark: Option<Family>,
     verdict: bool,
 ) -> Result<String, NoMemory>
     ensures { IfOk result (λ text. string_bytes text
-        ≡ spec.verdict_line asked.now.from asked.now.to asked.now.spot mark verdict) }
+        ≡ spec.verdict_line packet.now.from packet.now.to packet.now.spot mark verdict) }
 {
-    let AskedPacket { from, to, spot, .. } = asked;
+    let AskedPacket { from, to, spot, .. } = packet;
     let mark = family_suffix(mark);
     let said = said_text(alloc, *spot, verdict)?;
     Ok(format!(in alloc; "{from} => {to}{mark} : {said}\n")?)

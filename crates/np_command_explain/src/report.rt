@@ -118,11 +118,11 @@ fn ends_between(
 }
 
 // What stands for a source: of a workload its first pod.
-fn source_end(workloads: &Workloads, asked: AskedEnd) -> End
-    requires { HasPods workloads.now asked }
-    ensures { result ≡ spec.source_end workloads.now asked }
+fn source_end(workloads: &Workloads, end: AskedEnd) -> End
+    requires { HasPods workloads.now end }
+    ensures { result ≡ spec.source_end workloads.now end }
 {
-    match asked {
+    match end {
         AskedEnd::At(address) => End::At(address),
         AskedEnd::Work(number) => End::Pod(workloads.members(number)[0]),
     }

@@ -180,14 +180,14 @@ fn write_sides<F: Form, O: Sink>(
 {
     let mut gathered = BufferedSink::new(alloc)?;
     let mut known = KnownRows::new(alloc, folded.estate());
-    let mut came = false;
+    let mut has_rows = false;
     for side in sides {
         let rows = rows_at(alloc, folded, *side, &mut known)?;
-        let lines = lines_of::<F>(alloc, came, rows.items())?;
+        let lines = lines_of::<F>(alloc, has_rows, rows.items())?;
         gathered.put(out, &lines)?;
-        came |= !rows.items().is_empty();
+        has_rows |= !rows.items().is_empty();
     }
-    gathered.put(out, F::end(came).as_bytes())?;
+    gathered.put(out, F::end(has_rows).as_bytes())?;
     gathered.finish(out)?;
     Ok(())
 }

@@ -43,7 +43,7 @@ pub fn listing_of(
     side: FocusSide,
 ) -> Result<Listing, Failure>
     ensures asked { Gives result (spec.listing_of controller.now focus.now side folded.now) }
-    ensures workload { IfOk result (λ asked. IfSome asked.controller (IsWorkload folded.now)) }
+    ensures workload { IfOk result (λ listing. IfSome listing.controller (IsWorkload folded.now)) }
 {
     let controller = match controller {
         Some(name) => Some(workload_of(folded, name)?),
@@ -65,23 +65,23 @@ pub fn listing_of(
 pub fn list<O: Sink, L: Ledger>(
     alloc: Global,
     folded: &Folded,
-    asked: Listing,
-    told: Presentation,
+    listing: Listing,
+    presentation: Presentation,
     out: &mut O,
     steps: &mut Steps<L>,
 ) -> Result<(), WriteFault>
-    requires { IfSome asked.controller (IsWorkload folded.now) }
+    requires { IfSome listing.controller (IsWorkload folded.now) }
     ensures written { Writes (sunk O.taken O.faults out.old out.new)
-        (list_text (cluster_table folded.now asked.controller) asked.query told.format told.report)
+        (list_text (cluster_table folded.now listing.controller) listing.query presentation.format presentation.report)
         result }
     ensures least { steps.old ≤ steps.new }
     ensures most { steps.new ≤ steps.old + list_steps folded.now }
 {
-    let report = told.report;
-    match told.format {
-        Format::Plain => write_rows::<TextForm, O, L>(alloc, folded, asked, report, out, steps),
-        Format::Csv => write_rows::<CsvForm, O, L>(alloc, folded, asked, report, out, steps),
-        Format::Json => write_rows::<JsonForm, O, L>(alloc, folded, asked, report, out, steps),
+    let report = presentation.report;
+    match presentation.format {
+        Format::Plain => write_rows::<TextForm, O, L>(alloc, folded, listing, report, out, steps),
+        Format::Csv => write_rows::<CsvForm, O, L>(alloc, folded, listing, report, out, steps),
+        Format::Json => write_rows::<JsonForm, O, L>(alloc, folded, listing, report, out, steps),
     }
 }
 
@@ -90,28 +90,28 @@ pub fn list<O: Sink, L: Ledger>(
 fn write_rows<F: Form, O: Sink, L: Ledger>(
     alloc: Global,
     folded: &Folded,
-    asked: Listing,
+    listing: Listing,
     report: Report,
     out: &mut O,
     steps: &mut Steps<L>,
 ) -> Result<(), WriteFault>
-    requires { IfSome asked.controller (IsWorkload folded.now) }
+    requires { IfSome listing.controller (IsWorkload folded.now) }
     ensures written { Writes (sunk O.taken O.faults out.old out.new)
-        (rows_to_come F.bytes (names_of (folding_of folded.now)) asked.query report false
-        (cluster_rows (cluster_table folded.now asked.controller)))
+        (rows_to_come F.bytes (names_of (folding_of folded.now)) listing.query report false
+        (cluster_rows (cluster_table folded.now listing.controller)))
         result }
     ensures least { steps.old ≤ steps.new }
     ensures most { steps.new ≤ steps.old + list_steps folded.now }
 {
-    let mut rows = ClusterRows::of(alloc, folded, asked.controller)?;
+    let mut rows = ClusterRows::of(alloc, folded, listing.controller)?;
     let mut gathered = BufferedSink::new(alloc)?;
-    let mut came = false;
+    let mut has_rows = false;
     while let Some(row) = rows.next(steps)? {
-        let line = line_of::<F>(alloc, folded, &asked.query, report, came, &row)?;
+        let line = line_of::<F>(alloc, folded, &listing.query, report, has_rows, &row)?;
         gathered.put(out, &line)?;
-        came |= keeps(&asked.query, &row.key);
+        has_rows |= keeps(&listing.query, &row.key);
     }
-    gathered.put(out, F::end(came).as_bytes())?;
+    gathered.put(out, F::end(has_rows).as_bytes())?;
     gathered.finish(out)?;
     Ok(())
 }
@@ -122,15 +122,15 @@ fn line_of<F: Form>(
     folded: &Folded,
     query: &Query,
     report: Report,
-    came: bool,
+    has_rows: bool,
     row: &Row,
 ) -> Result<Vec<u8>, NoMemory>
     ensures { IfOk result (λ line. line.items ≡ (if keeps query.now row.now.key
-        then F.bytes.row came (row_text (names_of (folding_of folded.now)) report row.now) else [])) }
+        then F.bytes.row has_rows (row_text (names_of (folding_of folded.now)) report row.now) else [])) }
 {
     if !keeps(query, &row.key) {
         return Ok(Vec::new(alloc));
     }
     let text = row_text(alloc, folded.workloads(), row, report)?;
-    F::line(alloc, came, &text)
+    F::line(alloc, has_rows, &text)
 }

@@ -17,7 +17,7 @@ abbrev pub text_line : RowText → List ℕ
 text_line row = row.source ++ codes " => " ++ row.destination ++ codes " : " ++ row.connections ++ codes "\n"
 
 abbrev pub text_form : Form
-text_form = record { row = λ came row. text_line row; end = λ came. [] }
+text_form = record { row = λ has_rows row. text_line row; end = λ has_rows. [] }
 
 -- ---- comma-separated values under a header row, even of no rows, as the default writer of `csv` writes them
 
@@ -29,8 +29,8 @@ csv_line row = csv_row default_writer (row.source ∷ row.destination ∷ row.co
 
 abbrev pub csv_form : Form
 csv_form = record {
-  row = λ came row. (if came then [] else csv_header) ++ csv_line row;
-  end = λ came. if came then [] else csv_header;
+  row = λ has_rows row. (if has_rows then [] else csv_header) ++ csv_line row;
+  end = λ has_rows. if has_rows then [] else csv_header;
 }
 
 -- ---- a JSON list of objects, one in a line, each as the compact text of `serde_json`
@@ -41,8 +41,8 @@ json_object row =
 
 abbrev pub json_form : Form
 json_form = record {
-  row = λ came row. (if came then codes ",\n" else codes "[") ++ compact_text (json_object row);
-  end = λ came. (if came then [] else codes "[") ++ codes "]\n";
+  row = λ has_rows row. (if has_rows then codes ",\n" else codes "[") ++ compact_text (json_object row);
+  end = λ has_rows. (if has_rows then [] else codes "[") ++ codes "]\n";
 }
 
 -- ---- whole reports
@@ -54,13 +54,13 @@ form_of Json = json_form
 
 -- what is still to come of a report: these rows and its end, where one knows whether a row came before
 abbrev pub text_to_come : Form → Bool → List RowText → List ℕ
-text_to_come form came [] = form.end came
-text_to_come form came (row ∷ rows) = form.row came row ++ text_to_come form true rows
+text_to_come form has_rows [] = form.end has_rows
+text_to_come form has_rows (row ∷ rows) = form.row has_rows row ++ text_to_come form true rows
 
 -- the bytes of some rows, and no end
 abbrev pub lines_of : Form → Bool → List RowText → List ℕ
-lines_of form came [] = []
-lines_of form came (row ∷ rows) = form.row came row ++ lines_of form true rows
+lines_of form has_rows [] = []
+lines_of form has_rows (row ∷ rows) = form.row has_rows row ++ lines_of form true rows
 
 -- the bytes of a whole report
 abbrev pub report_text : Format → List RowText → List ℕ
@@ -70,13 +70,13 @@ report_text format rows = text_to_come (form_of format) false rows
 
 -- what is known of one: whether a row came, and whether it is broken, since a call was refused or its end was given
 pub record Progress : Type 0 where
-  pub came : Bool
+  pub has_rows : Bool
   pub broken : Bool
 
 -- no call was made yet
 abbrev pub fresh : Progress
-fresh = record { came = false; broken = false }
+fresh = record { has_rows = false; broken = false }
 
 -- a row came, and no call was refused
 abbrev pub under_way : Progress
-under_way = record { came = true; broken = false }
+under_way = record { has_rows = true; broken = false }

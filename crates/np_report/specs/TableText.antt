@@ -29,7 +29,7 @@ list_text cluster query format report = report_text format (texts_of cluster.tab
 
 -- what is still to come of it while these rows are, where one knows whether a row came before
 unfoldable pub rows_to_come : Form → List (List ℕ) → Query → Report → Bool → List Row → List ℕ
-rows_to_come form names query report came rows = text_to_come form came (texts_of names report (asked_rows query rows))
+rows_to_come form names query report has_rows rows = text_to_come form has_rows (texts_of names report (asked_rows query rows))
 
 -- ---- tables that say the same
 

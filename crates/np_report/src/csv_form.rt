@@ -26,9 +26,9 @@ impl Form for CsvForm {
 
     ghost bytes = { csv_form };
 
-    fn line(alloc: Global, came: bool, row: &RowText) -> Result<Vec<u8>, NoMemory> {
+    fn line(alloc: Global, has_rows: bool, row: &RowText) -> Result<Vec<u8>, NoMemory> {
         let mut line = Vec::with_capacity(alloc, ROOM)?;
-        line.extend_from_slice(Self::end(came).as_bytes())?;
+        line.extend_from_slice(Self::end(has_rows).as_bytes())?;
         put_field(&mut line, row.source.as_str())?;
         line.push(b',')?;
         put_field(&mut line, row.destination.as_str())?;
@@ -38,8 +38,8 @@ impl Form for CsvForm {
         Ok(line)
     }
 
-    fn end(came: bool) -> &'static str {
-        if came { "" } else { HEADER }
+    fn end(has_rows: bool) -> &'static str {
+        if has_rows { "" } else { HEADER }
     }
 }
 

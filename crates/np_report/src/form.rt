@@ -12,10 +12,10 @@ pub trait Form {
     ghost bytes: { spec.Form };
 
     /// The bytes of a row.
-    fn line(alloc: Global, came: bool, row: &RowText) -> Result<Vec<u8>, NoMemory>
-        ensures { IfOk result (λ line. line.items ≡ bytes.row came row.now) };
+    fn line(alloc: Global, has_rows: bool, row: &RowText) -> Result<Vec<u8>, NoMemory>
+        ensures { IfOk result (λ line. line.items ≡ bytes.row has_rows row.now) };
 
     /// The bytes behind the last row.
-    fn end(came: bool) -> &'static str
-        ensures { result.now ≡ bytes.end came };
+    fn end(has_rows: bool) -> &'static str
+        ensures { result.now ≡ bytes.end has_rows };
 }

@@ -30,7 +30,7 @@ pub type JsonReport = FormReport<JsonForm>;
 #[derive(Drop)]
 pub struct FormReport<F: Form> {
     alloc: Global,
-    came: bool,
+    has_rows: bool,
     broken: bool,
     form: PhantomData<F>,
 }
@@ -40,7 +40,7 @@ impl<F: Form> Model for FormReport<F> {
 
     ghost Value = { Progress };
 
-    ghost view = { λ report. record { came = report.came; broken = report.broken } };
+    ghost view = { λ report. record { has_rows = report.has_rows; broken = report.broken } };
 }
 
 impl<F: Form> FormReport<F> {
@@ -50,7 +50,7 @@ impl<F: Form> FormReport<F> {
     {
         FormReport {
             alloc,
-            came: false,
+            has_rows: false,
             broken: false,
             form: PhantomData,
         }
@@ -58,7 +58,7 @@ impl<F: Form> FormReport<F> {
 
     /// The bytes of the next row. `Broken` comes exactly where the report was, and any other refusal is `NoMemory`.
     pub fn line(&mut self, row: &RowText) -> Result<Vec<u8>, ReportFault>
-        ensures bytes { IfOk result (λ line. line.items ≡ F.bytes.row self.old.came row.now) }
+        ensures bytes { IfOk result (λ line. line.items ≡ F.bytes.row self.old.has_rows row.now) }
         ensures ok { OnOk result (self.new ≡ under_way) }
         ensures broken { IsErrOf result ReportFault.Broken ↔ IsTrue self.old.broken }
         ensures no_sink { IfErr result (λ fault. fault ≢ ReportFault.SinkFailed) }
@@ -68,8 +68,8 @@ impl<F: Form> FormReport<F> {
             return Err(ReportFault::Broken);
         }
         self.broken = true;
-        let line = F::line(self.alloc, self.came, row)?;
-        self.came = true;
+        let line = F::line(self.alloc, self.has_rows, row)?;
+        self.has_rows = true;
         self.broken = false;
         Ok(line)
     }
@@ -77,7 +77,7 @@ impl<F: Form> FormReport<F> {
     /// The bytes behind the last row, after which the report is broken. It is refused, as `Broken`, exactly where the
     /// report was.
     pub fn end(&mut self) -> Result<&'static str, ReportFault>
-        ensures bytes { IfOk result (λ end. end.now ≡ F.bytes.end self.old.came) }
+        ensures bytes { IfOk result (λ end. end.now ≡ F.bytes.end self.old.has_rows) }
         ensures broken { IsErrOf result ReportFault.Broken ↔ IsTrue self.old.broken }
         ensures only { IfErr result (λ fault. fault ≡ ReportFault.Broken) }
         ensures after { self.new.broken ≡ true }
@@ -86,7 +86,7 @@ impl<F: Form> FormReport<F> {
             return Err(ReportFault::Broken);
         }
         self.broken = true;
-        Ok(F::end(self.came))
+        Ok(F::end(self.has_rows))
     }
 
     /// Writes the next row.
@@ -95,13 +95,13 @@ impl<F: Form> FormReport<F> {
     /// exactly where the report was. After `Broken` and `NoMemory` the sink was not called.
     pub fn row<O: Sink>(&mut self, out: &mut O, row: &RowText) -> Result<(), ReportFault>
         ensures written { OnOk result
-            (O.taken out.new ≡ append_known (O.taken out.old) (F.bytes.row self.old.came row.now)) }
+            (O.taken out.new ≡ append_known (O.taken out.old) (F.bytes.row self.old.has_rows row.now)) }
         ensures ok_faults { OnOk result (O.faults out.new ≡ O.faults out.old) }
         ensures ok { OnOk result (self.new ≡ under_way) }
 
         ensures failed { IsErrOf result ReportFault.SinkFailed → Rose (O.faults out.old) (O.faults out.new) }
         ensures front { OnErr result
-            (TookFront (O.taken out.old) (O.taken out.new) (F.bytes.row self.old.came row.now)) }
+            (TookFront (O.taken out.old) (O.taken out.new) (F.bytes.row self.old.has_rows row.now)) }
         ensures uncalled { IfErr result (λ fault. fault ≢ ReportFault.SinkFailed → out.new ≡ out.old) }
         ensures broken { IsErrOf result ReportFault.Broken ↔ IsTrue self.old.broken }
         ensures err { OnErr result (self.new.broken ≡ true) }
@@ -123,13 +123,13 @@ impl<F: Form> FormReport<F> {
     /// exactly where the report was, and the sink was not called then. There is no other refusal.
     pub fn finish<O: Sink>(&mut self, out: &mut O) -> Result<(), ReportFault>
         ensures written { OnOk result
-            (O.taken out.new ≡ append_known (O.taken out.old) (F.bytes.end self.old.came)) }
+            (O.taken out.new ≡ append_known (O.taken out.old) (F.bytes.end self.old.has_rows)) }
         ensures ok_faults { OnOk result (O.faults out.new ≡ O.faults out.old) }
         ensures after { self.new.broken ≡ true }
 
         ensures failed { IsErrOf result ReportFault.SinkFailed → Rose (O.faults out.old) (O.faults out.new) }
         ensures front { OnErr result
-            (TookFront (O.taken out.old) (O.taken out.new) (F.bytes.end self.old.came)) }
+            (TookFront (O.taken out.old) (O.taken out.new) (F.bytes.end self.old.has_rows)) }
         ensures uncalled { IfErr result (λ fault. fault ≢ ReportFault.SinkFailed → out.new ≡ out.old) }
         ensures no_memory { IfErr result (λ fault. fault ≢ ReportFault.NoMemory) }
         ensures broken { IsErrOf result ReportFault.Broken ↔ IsTrue self.old.broken }

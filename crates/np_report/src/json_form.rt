@@ -19,9 +19,9 @@ impl Form for JsonForm {
 
     ghost bytes = { json_form };
 
-    fn line(alloc: Global, came: bool, row: &RowText) -> Result<Vec<u8>, NoMemory> {
+    fn line(alloc: Global, has_rows: bool, row: &RowText) -> Result<Vec<u8>, NoMemory> {
         let mut line = Vec::with_capacity(alloc, ROOM)?;
-        line.extend_from_slice(if came { ",\n" } else { "[" }.as_bytes())?;
+        line.extend_from_slice(if has_rows { ",\n" } else { "[" }.as_bytes())?;
         let mut object = Writer::new(line);
         object.begin_object()?;
         object.key("connections")?;
@@ -34,7 +34,7 @@ impl Form for JsonForm {
         Ok(object.into_inner())
     }
 
-    fn end(came: bool) -> &'static str {
-        if came { "]\n" } else { "[]\n" }
+    fn end(has_rows: bool) -> &'static str {
+        if has_rows { "]\n" } else { "[]\n" }
     }
 }

@@ -8,14 +8,18 @@ use np_base::NoMemory;
 use std::alloc::Global;
 
 /// The bytes of some rows of a report, which knows whether a row came before.
-pub fn lines_of<F: Form>(alloc: Global, came: bool, rows: &[RowText]) -> Result<Vec<u8>, NoMemory>
-    ensures { IfOk result (λ lines. lines.items ≡ spec.lines_of F.bytes came rows.now) }
+pub fn lines_of<F: Form>(
+    alloc: Global,
+    has_rows: bool,
+    rows: &[RowText],
+) -> Result<Vec<u8>, NoMemory>
+    ensures { IfOk result (λ lines. lines.items ≡ spec.lines_of F.bytes has_rows rows.now) }
 {
     let mut lines = Vec::new(alloc);
-    let mut came = came;
+    let mut has_rows = has_rows;
     for row in rows {
-        lines.extend_from_slice(&F::line(alloc, came, row)?)?;
-        came = true;
+        lines.extend_from_slice(&F::line(alloc, has_rows, row)?)?;
+        has_rows = true;
     }
     Ok(lines)
 }

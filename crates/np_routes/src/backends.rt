@@ -52,8 +52,8 @@ impl<'a> Backends<'a> {
     {
         let services = asked_services(alloc, estate)?;
         let mut by_namespace = BTreeMap::new(alloc);
-        for asked in &services {
-            add_service(alloc, &mut by_namespace, asked)?;
+        for service in &services {
+            add_service(alloc, &mut by_namespace, service)?;
         }
         Ok(Backends {
             estate,
@@ -110,8 +110,8 @@ fn put_last<'a>(
     namespace: &'a str,
     targets: ServiceTargets<'a>,
 ) -> Result<(), NoMemory>
-    ensures { OnOk result ((asked : List ℕ) → targets_in by_namespace.new asked
-        ≡ targets_in by_namespace.old asked ++ (if bytes_eq namespace.now asked then targets.entry ∷ [] else [])) }
+    ensures { OnOk result ((other : List ℕ) → targets_in by_namespace.new other
+        ≡ targets_in by_namespace.old other ++ (if bytes_eq namespace.now other then targets.entry ∷ [] else [])) }
 {
     by_namespace.entry(namespace)?.or_default().push(targets)?;
     Ok(())

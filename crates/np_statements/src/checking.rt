@@ -38,8 +38,8 @@ pub fn first_broken(
         if settled.has(&line.statement) {
             continue;
         }
-        let asked = asked_of(alloc, folded, line)?;
-        let found = broken_of(&mut checker, asked)?;
+        let asked_line = asked_of(alloc, folded, line)?;
+        let found = broken_of(&mut checker, asked_line)?;
         if found.is_some() {
             return Ok(found);
         }
@@ -48,13 +48,13 @@ pub fn first_broken(
 }
 
 // How a line is broken, if it is.
-fn broken_of(checker: &mut Checker<'_>, asked: AskedLine) -> Result<Option<Broken>, NoMemory>
-    requires { IsAsked checker.old asked }
-    ensures broken { IfOk result (λ made. made ≡ spec.broken_of checker.old asked) }
+fn broken_of(checker: &mut Checker<'_>, asked_line: AskedLine) -> Result<Option<Broken>, NoMemory>
+    requires { IsAsked checker.old asked_line }
+    ensures broken { IfOk result (λ made. made ≡ spec.broken_of checker.old asked_line) }
     ensures places { IfOk result (λ made. IfSome made (HasPlaces checker.old)) }
     ensures same { checker.new ≡ checker.old }
 {
-    let AskedLine { line, question } = asked;
+    let AskedLine { line, question } = asked_line;
     let allowed = broken_verdict(question.wanted);
     let Some(packet) = counterexample_of(checker, question)? else {
         return Ok(None);

@@ -8,12 +8,12 @@ use Rattle.np_check.proofs.addresses.first_from_addresses.Goals as goal
 
 pub returns-then-is_empty-clause-counterexample : goal.returns-then-is_empty-clause-counterexample
 returns-then-is_empty-clause-counterexample c =
-    none_of c.args.block.now (λ address. first_given (λ (work : ℕ). counterexample_between c.args.checker.now c.args.asked.now.wanted c.args.asked.now.conns.now (At address) (Work work))
+    none_of c.args.block.now (λ address. first_given (λ (work : ℕ). counterexample_between c.args.checker.now c.args.claim.now.wanted c.args.claim.now.conns.now (At address) (Work work))
     c.args.destinations.now) (λ n. c.if-is_empty.ensures.answer (First n)) (λ n. c.if-is_empty.ensures.answer (Second n))
 
 pub loop-destination-init : goal.loop-destination-init
 loop-destination-init c = record {
-  first = no_works c.args.checker.now c.args.asked.now.wanted c.args.asked.now.conns.now c.args.block.now;
+  first = no_works c.args.checker.now c.args.claim.now.wanted c.args.claim.now.conns.now c.args.block.now;
   same = refl;
 }
 
@@ -27,12 +27,12 @@ returns-in_err-found-clause-same c = c.first_from.ensures.same ∙ c.loop-destin
 
 pub loop-destination-preserved : goal.loop-destination-preserved
 loop-destination-preserved c =
-    let first_to = λ (lists : EstateLists). first_given (λ address. counterexample_between lists c.args.asked.now.wanted c.args.asked.now.conns.now (At address)
+    let first_to = λ (lists : EstateLists). first_given (λ address. counterexample_between lists c.args.claim.now.wanted c.args.claim.now.conns.now (At address)
     (Work (get_or c.args.destinations.now c.loop-destination.destination-index 0))) (addresses_of c.args.block.now) in
     let found = c.in_ok-found.ensures.counterexample ∙ ap first_to c.loop-destination.invariant.same in
     record {
       first = c.earlier-first.ensures
-          ∙ one_work_more c.args.checker.now c.args.asked.now.wanted c.args.asked.now.conns.now c.args.block.now c.args.destinations.now
+          ∙ one_work_more c.args.checker.now c.args.claim.now.wanted c.args.claim.now.conns.now c.args.block.now c.args.destinations.now
           c.loop-destination.destination-index c.loop-destination.first c.in_ok-found.found c.loop-destination-test.true c.loop-destination.invariant.first found;
       same = c.in_ok-found.ensures.same ∙ c.loop-destination.invariant.same;
     }
@@ -41,7 +41,7 @@ pub returns-clause-counterexample : goal.returns-clause-counterexample
 returns-clause-counterexample c =
     c.loop-destination.invariant.first
     ∙ ap (λ (works : List ℕ). first_given (λ (address : Address). first_given
-    (λ (work : ℕ). counterexample_between c.args.checker.now c.args.asked.now.wanted c.args.asked.now.conns.now (At address) (Work work)) works) (addresses_of c.args.block.now))
+    (λ (work : ℕ). counterexample_between c.args.checker.now c.args.claim.now.wanted c.args.claim.now.conns.now (At address) (Work work)) works) (addresses_of c.args.block.now))
     (take_all c.loop-destination.destination-index c.args.destinations.now c.loop-destination-test.false)
 
 pub returns-clause-same : goal.returns-clause-same

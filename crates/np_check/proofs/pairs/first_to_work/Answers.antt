@@ -35,7 +35,7 @@ returns-clause-settled c =
     let receives : c.kind_of-2.result ≡ kind_of c.args.checker.now c.args.destination = c.kind_of-2.ensures ∙ ap (λ (f : Folding). slice_index f.kinds c.args.destination) folding in
     elim c.if-is_none.branch [
       | then-is_none+then-source-destination+in_ok-insert w ↦
-          let none = none_of_is c.in_ok-found.found (counterexample_between c.args.checker.now c.args.asked.now.wanted c.args.asked.now.conns.now (Work c.args.source)
+          let none = none_of_is c.in_ok-found.found (counterexample_between c.args.checker.now c.args.claim.now.wanted c.args.claim.now.conns.now (Work c.args.source)
           (Work c.args.destination)) c.is_none.result c.is_none.ensures w.if-is_none.true c.in_ok-found.ensures.counterexample in
           let has : (i j : ℕ) → has_pair w.insert.new.self.keys i j ≡ (if (kind_of c.args.checker.now c.args.source == i)
           && (kind_of c.args.checker.now c.args.destination == j) then true else has_pair c.args.settled.now.keys i j) = λ i j.
@@ -43,12 +43,12 @@ returns-clause-settled c =
           ∙ ap (λ (k : ℕ). if (k == i) && (c.kind_of-2.result == j) then true else has_pair c.args.settled.now.keys i j) sends
           ∙ ap (λ (k : ℕ). if (kind_of c.args.checker.now c.args.source == i) && (k == j) then true else has_pair c.args.settled.now.keys i j) receives in
           rw (w.settled-is, c.in_ok-found.ensures.same)
-          (settled-more c.args.checker.now c.args.asked.now.wanted c.args.asked.now.conns.now c.args.settled.now.keys w.insert.new.self.keys
+          (settled-more c.args.checker.now c.args.claim.now.wanted c.args.claim.now.conns.now c.args.settled.now.keys w.insert.new.self.keys
           c.args.source c.args.destination lawful c.requires.source c.requires.destination w.if-source-destination.true none has c.requires.settled)
       | else-is_none w ↦ rw (w.settled-is, c.in_ok-found.ensures.same) c.requires.settled
     ]
 
 pub returns-then-is_silent-clause-counterexample : goal.returns-then-is_silent-clause-counterexample
 returns-then-is_silent-clause-counterexample c =
-    none_denied c.args.checker.now c.args.asked.now.wanted c.args.asked.now.conns.now c.args.source c.args.destination
+    none_denied c.args.checker.now c.args.claim.now.wanted c.args.claim.now.conns.now c.args.source c.args.destination
     (sym c.denies-denied.ensures ∙ c.if-denied.true) (c.is_silent.ensures c.if-is_silent.true)

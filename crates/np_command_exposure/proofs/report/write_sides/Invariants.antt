@@ -10,6 +10,6 @@ invariant-loop-side g l = record {
   left : HasLeft (g.O.Sink.taken l.fn.out) (g.O.Sink.taken l.out) (g.O.Sink.faults l.fn.out) (g.O.Sink.faults l.out)
       (text_to_come g.F.Form.bytes false (flat_map (side_rows l.fn.folded) l.fn.sides))
       l.gathered
-      (text_to_come g.F.Form.bytes l.came (flat_map (side_rows l.folded) (drop l.side-index l.sides)));
+      (text_to_come g.F.Form.bytes l.has_rows (flat_map (side_rows l.folded) (drop l.side-index l.sides)));
   known : l.known ≡ l.folded;
 }

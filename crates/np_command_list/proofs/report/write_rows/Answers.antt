@@ -38,7 +38,7 @@ loop-gathered-preserved g c =
     let left = HasLeft-row _ _ _ _ _ _ _ _ _ _ _ _ c.loop-gathered.invariant.left _ _ came in
     let put = rw (c.deref.ensures.value, c.in_ok-line.ensures) at c.in_ok-put.ensures.put in
     record {
-      left = rw c.keeps-came.ensures (HasLeft-next _ _ _ _ _ _ _ _ _ _ _ left put c.in_ok-put.ensures.ok_faults);
+      left = rw c.keeps-has_rows.ensures (HasLeft-next _ _ _ _ _ _ _ _ _ _ _ left put c.in_ok-put.ensures.ok_faults);
       least = omega (arith, c.loop-gathered.invariant.least, c.in_ok-row.ensures.least);
       most = omega (arith, c.loop-gathered.invariant.most, c.in_ok-row.ensures.counted);
     }

@@ -10,9 +10,9 @@ use Rattle.np_routes.specs.Prelude.{cluster_rows, cluster_table}
 abbrev pub invariant-loop-gathered : goal.invariant-loop-gathered
 invariant-loop-gathered g l = record {
   left : HasLeft (g.O.Sink.taken l.fn.out) (g.O.Sink.taken l.out) (g.O.Sink.faults l.fn.out) (g.O.Sink.faults l.out)
-      (rows_to_come g.F.Form.bytes (names_of (folding_of l.fn.folded)) l.fn.asked.query l.fn.report false (cluster_rows (cluster_table l.fn.folded l.fn.asked.controller)))
+      (rows_to_come g.F.Form.bytes (names_of (folding_of l.fn.folded)) l.fn.listing.query l.fn.report false (cluster_rows (cluster_table l.fn.folded l.fn.listing.controller)))
       l.gathered
-      (rows_to_come g.F.Form.bytes (names_of (folding_of l.fn.folded)) l.fn.asked.query l.fn.report l.came l.rows.rows);
+      (rows_to_come g.F.Form.bytes (names_of (folding_of l.fn.folded)) l.fn.listing.query l.fn.report l.has_rows l.rows.rows);
   least : l.fn.steps ≤ l.steps;
   most : l.steps + l.rows.due ≤ l.fn.steps + list_steps l.fn.folded;
 }

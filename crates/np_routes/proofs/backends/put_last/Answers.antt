@@ -3,4 +3,4 @@ use Rattle.std.proofs.lemmas.Grind.{text_groups}
 use Rattle.np_routes.proofs.backends.put_last.Goals as goal
 
 pub returns : goal.returns
-returns c asked = grind (arith, text_groups)
+returns c other = grind (arith, text_groups)

@@ -33,21 +33,21 @@ asked_of-requires c =
     c.loop-line.yielded_by c.next.result c.next.new.self c.in-Some-line.line c.in-Some-line.is c.next.ensures.steps in
     at_turn IsWellLine c.args.statements _ c.in-Some-line.line turn c.requires
 
-pub returns-in_err-asked-clause-first : goal.returns-in_err-asked-clause-first
-returns-in_err-asked-clause-first c =
+pub returns-in_err-asked_line-clause-first : goal.returns-in_err-asked_line-clause-first
+returns-in_err-asked_line-clause-first c =
     let turn = YieldsList-turn (YieldsList-from_vec c.args.statements (c.into_iter-line-iterator.ensures.into_iter_gives.0 ∙ c.into_vec-line-items.ensures)
     (c.into_iter-line-iterator.ensures.into_iter_gives.1 ∙ c.into_vec-line-items.result.ok.0 ∙ ap length c.into_vec-line-items.ensures)) c.loop-line.yielded c.loop-line.line-iterator
     c.loop-line.yielded_by c.next.result c.next.new.self c.in-Some-line.line c.in-Some-line.is c.next.ensures.steps in
-    let answer = err_from_is_err_and c.from_residual-in_err-asked.result c.from_residual-in_err-asked.ensures.1 in
-    rw (answer.1, answer.2) (line_unknown c.args.folded.now c.args.statements _ c.in-Some-line.line c.in_err-asked.field-0.0 turn c.loop-line.invariant.left c.in_err-asked.ensures)
+    let answer = err_from_is_err_and c.from_residual-in_err-asked_line.result c.from_residual-in_err-asked_line.ensures.1 in
+    rw (answer.1, answer.2) (line_unknown c.args.folded.now c.args.statements _ c.in-Some-line.line c.in_err-asked_line.field-0.0 turn c.loop-line.invariant.left c.in_err-asked_line.ensures)
 
 pub broken_of-requires : goal.broken_of-requires
 broken_of-requires c =
     let turn = YieldsList-turn (YieldsList-from_vec c.args.statements (c.into_iter-line-iterator.ensures.into_iter_gives.0 ∙ c.into_vec-line-items.ensures)
     (c.into_iter-line-iterator.ensures.into_iter_gives.1 ∙ c.into_vec-line-items.result.ok.0 ∙ ap length c.into_vec-line-items.ensures)) c.loop-line.yielded c.loop-line.line-iterator
     c.loop-line.yielded_by c.next.result c.next.new.self c.in-Some-line.line c.in-Some-line.is c.next.ensures.steps in
-    subst (λ (lists : EstateLists). IsAsked lists c.in_ok-asked.asked) (sym c.loop-line.invariant.same)
-    (known-line c.args.folded.now c.in-Some-line.line c.in_ok-asked.asked (at_turn IsWellLine c.args.statements _ c.in-Some-line.line turn c.requires) c.in_ok-asked.ensures)
+    subst (λ (lists : EstateLists). IsAsked lists c.in_ok-asked_line.asked_line) (sym c.loop-line.invariant.same)
+    (known-line c.args.folded.now c.in-Some-line.line c.in_ok-asked_line.asked_line (at_turn IsWellLine c.args.statements _ c.in-Some-line.line turn c.requires) c.in_ok-asked_line.ensures)
 
 pub returns-then-is_some-clause-first : goal.returns-then-is_some-clause-first
 returns-then-is_some-clause-first c =
@@ -55,8 +55,8 @@ returns-then-is_some-clause-first c =
     (c.into_iter-line-iterator.ensures.into_iter_gives.1 ∙ c.into_vec-line-items.result.ok.0 ∙ ap length c.into_vec-line-items.ensures)) c.loop-line.yielded c.loop-line.line-iterator
     c.loop-line.yielded_by c.next.result c.next.new.self c.in-Some-line.line c.in-Some-line.is c.next.ensures.steps in
     let known : IsOk (ends_found c.args.folded.now c.args.statements) = rw c.items.ensures at c.in_default.ensures in
-    let broken = c.in_ok-found.ensures.broken ∙ ap (λ (lists : EstateLists). broken_of lists c.in_ok-asked.asked) c.loop-line.invariant.same in
-    one_broken c.args.folded.now c.args.statements _ c.in-Some-line.line c.in_ok-asked.asked c.in_ok-found.found turn c.loop-line.invariant.left known c.in_ok-asked.ensures broken
+    let broken = c.in_ok-found.ensures.broken ∙ ap (λ (lists : EstateLists). broken_of lists c.in_ok-asked_line.asked_line) c.loop-line.invariant.same in
+    one_broken c.args.folded.now c.args.statements _ c.in-Some-line.line c.in_ok-asked_line.asked_line c.in_ok-found.found turn c.loop-line.invariant.left known c.in_ok-asked_line.ensures broken
     (sym c.is_some.ensures ∙ c.if-is_some.true)
 
 pub returns-then-is_some-clause-places : goal.returns-then-is_some-clause-places
@@ -67,9 +67,9 @@ loop-line-preserved c =
     let turn = YieldsList-turn (YieldsList-from_vec c.args.statements (c.into_iter-line-iterator.ensures.into_iter_gives.0 ∙ c.into_vec-line-items.ensures)
     (c.into_iter-line-iterator.ensures.into_iter_gives.1 ∙ c.into_vec-line-items.result.ok.0 ∙ ap length c.into_vec-line-items.ensures)) c.loop-line.yielded c.loop-line.line-iterator
     c.loop-line.yielded_by c.next.result c.next.new.self c.in-Some-line.line c.in-Some-line.is c.next.ensures.steps in
-    let broken = c.in_ok-found.ensures.broken ∙ ap (λ (lists : EstateLists). broken_of lists c.in_ok-asked.asked) c.loop-line.invariant.same in
+    let broken = c.in_ok-found.ensures.broken ∙ ap (λ (lists : EstateLists). broken_of lists c.in_ok-asked_line.asked_line) c.loop-line.invariant.same in
     record {
-      left = one_left c.args.folded.now c.args.statements _ _ c.in-Some-line.line c.in_ok-asked.asked c.in_ok-found.found turn c.loop-line.invariant.left c.in_ok-asked.ensures broken
+      left = one_left c.args.folded.now c.args.statements _ _ c.in-Some-line.line c.in_ok-asked_line.asked_line c.in_ok-found.found turn c.loop-line.invariant.left c.in_ok-asked_line.ensures broken
           (sym c.is_some.ensures ∙ c.if-is_some.false) (length_push c.loop-line.yielded c.in-Some-line.line);
       same = c.in_ok-found.ensures.same ∙ c.loop-line.invariant.same;
     }

@@ -19,4 +19,4 @@ returns c =
       c.as_str-2.ensures,
       c.as_str-3.ensures,
     )
-    (line_is (csv_form.end c.args.came) c.args.row.now)
+    (line_is (csv_form.end c.args.has_rows) c.args.row.now)

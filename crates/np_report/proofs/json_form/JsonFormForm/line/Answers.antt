@@ -1,7 +1,7 @@
 use Rattle.std.proofs.Common.{◌≡◌, ◌++◌, ◌∙◌, List, ℕ, codes, refl, ap, if◌then◌else◌}
 use Rattle.np_report.proofs.JsonLemmas.{object_text, row_tokens}
 use Rattle.np_report.proofs.json_form.JsonFormForm.line.Goals as goal
-use Rattle.np_report.proofs.json_form.JsonFormForm.line.Goals.{then-came, else-came}
+use Rattle.np_report.proofs.json_form.JsonFormForm.line.Goals.{then-has_rows, else-has_rows}
 
 pub returns : goal.returns
 returns c =
@@ -20,9 +20,9 @@ returns c =
       c.as_str-2.ensures,
       c.as_str-3.ensures,
     ) refl in
-    let first : c.if-came.as_bytes.now ≡ (if c.args.came then codes ",\n" else codes "[") =
-    elim c.if-came.branch [ then-came w ↦ rw w.if-came.true (ap (λ (text : _). text.now) w.as_bytes-is) | else-came w ↦ rw w.if-came.false (ap (λ (text : _). text.now) w.as_bytes-is) ] in
-    let before : c.end_object.new.self.before ≡ (if c.args.came then codes ",\n" else codes "[") =
+    let first : c.if-has_rows.as_bytes.now ≡ (if c.args.has_rows then codes ",\n" else codes "[") =
+    elim c.if-has_rows.branch [ then-has_rows w ↦ rw w.if-has_rows.true (ap (λ (text : _). text.now) w.as_bytes-is) | else-has_rows w ↦ rw w.if-has_rows.false (ap (λ (text : _). text.now) w.as_bytes-is) ] in
+    let before : c.end_object.new.self.before ≡ (if c.args.has_rows then codes ",\n" else codes "[") =
     rw (
       c.in_ok-end_object.ensures.room.0,
       c.in_ok-string-3.ensures.room.0,
@@ -38,4 +38,4 @@ returns c =
       c.as_bytes.ensures.value,
     )
     first in
-    c.into_inner.ensures.items ∙ rw (before, tokens) (ap (λ (text : List ℕ). (if c.args.came then codes ",\n" else codes "[") ++ text) (object_text c.args.row.now))
+    c.into_inner.ensures.items ∙ rw (before, tokens) (ap (λ (text : List ℕ). (if c.args.has_rows then codes ",\n" else codes "[") ++ text) (object_text c.args.row.now))

@@ -5,5 +5,5 @@ use Rattle.np_routes.proofs.backends.Backends.of.Given as goal
 use Rattle.np_rules.specs.Prelude.{PodEnd}
 
 -- the services so far lead where those that are kept of a pod's namespace do
-abbrev pub invariant-loop-asked : goal.invariant-loop-asked
-invariant-loop-asked l = (p : PodEnd) (number : ℕ) → list_any (target_leads p number) (targets_in l.by_namespace p.namespace) ≡ list_any (asked_leads p number) (take l.asked-index l.asked-items)
+abbrev pub invariant-loop-service : goal.invariant-loop-service
+invariant-loop-service l = (p : PodEnd) (number : ℕ) → list_any (target_leads p number) (targets_in l.by_namespace p.namespace) ≡ list_any (asked_leads p number) (take l.service-index l.service-items)

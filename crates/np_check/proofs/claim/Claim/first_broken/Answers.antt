@@ -2,7 +2,7 @@ use Rattle.std.proofs.Common.{◌∙◌}
 use Rattle.np_check.proofs.SpotLemmas.{first_spot-same}
 use Rattle.np_check.specs.Prelude.{breaks}
 use Rattle.np_conns.specs.Prelude.{has_spot}
-use Rattle.np_check.proofs.asked.Asked.first_broken.Goals as goal
+use Rattle.np_check.proofs.claim.Claim.first_broken.Goals as goal
 
 pub returns : goal.returns
 returns c =

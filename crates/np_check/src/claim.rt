@@ -10,14 +10,14 @@ use crate::question::Wanted;
 use np_base::{Cells, NoMemory};
 use np_conns::{ConnSet, PortSpot, Proto};
 
-/// What a statement asks of the packets between its ends.
+/// What a statement claims of the packets between its ends.
 #[derive(Clone, Copy)]
-pub(crate) struct Asked<'a> {
+pub(crate) struct Claim<'a> {
     pub wanted: Wanted,
     pub conns: &'a ConnSet,
 }
 
-impl<'a> Asked<'a> {
+impl<'a> Claim<'a> {
     /// Whether no packet may be allowed.
     pub(crate) fn denies(&self) -> bool
         ensures { result ≡ is_deny self.now.wanted }

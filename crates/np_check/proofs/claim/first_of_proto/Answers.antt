@@ -1,6 +1,6 @@
 use Rattle.std.proofs.Common.{sym, ◌∙◌}
 use Rattle.np_check.proofs.SpotLemmas.{first_of_none, first_of_some}
-use Rattle.np_check.proofs.asked.first_of_proto.Goals as goal
+use Rattle.np_check.proofs.claim.first_of_proto.Goals as goal
 
 pub returns-in_err-first : goal.returns-in_err-first
 returns-in_err-first c =

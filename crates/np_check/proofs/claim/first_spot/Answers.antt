@@ -1,6 +1,6 @@
 use Rattle.np_check.proofs.SpotLemmas.{first_of_three}
 use Rattle.np_check.specs.Prelude.{first_spot}
-use Rattle.np_check.proofs.asked.first_spot.Goals as goal
+use Rattle.np_check.proofs.claim.first_spot.Goals as goal
 
 pub returns : goal.returns
 unfolding first_spot
