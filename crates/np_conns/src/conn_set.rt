@@ -119,15 +119,16 @@ impl ConnSet {
         })
     }
 
-    /// The same set. Where it is that of before, and takes memory, both are held once. So the thousands of ports that a name stands for
-    /// at a pod are held once for all rules in a row that have the name.
-    pub fn held_once(self, before: Option<&ConnSet>) -> Result<ConnSet, NoMemory>
-        ensures { IfOk result (λ made. made ≡ self) }
+    /// Leaves the set as it is. Where it is that of before, and takes memory, both are held once from now on. So the thousands of
+    /// ports that a name stands for at a pod are held once for all rules in a row that have the name.
+    pub fn share_with(&mut self, before: Option<&ConnSet>) -> Result<(), NoMemory>
+        ensures { self.new ≡ self.old }
     {
         match before {
-            Some(before) if self.many.is_some() && before.same(&self) => before.copy(),
-            _ => Ok(self),
+            Some(before) if self.many.is_some() && before.same(self) => *self = before.copy()?,
+            _ => {}
         }
+        Ok(())
     }
 
     // The ports, lent.

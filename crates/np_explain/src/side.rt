@@ -8,8 +8,7 @@ ghost use Rattle.np_rules.specs.Prelude.{PlacedAdminRule, PlacedBaseRule, Placed
 use crate::rule_names::{admin_rule_name, net_policy_names, net_rule_name};
 use np_base::{NoMemory, Text};
 use np_conns::ConnSet;
-use np_model::Action;
-use np_rules::{Decider, LayerRules, PodRules, PolicyNames, RuleName};
+use np_rules::{Decider, LayerRules, PodRules, PolicyNames, RuleName, is_allow};
 use np_tiers::{Layer, Mark};
 use std::alloc::Global;
 use std::marker::Model;
@@ -152,11 +151,4 @@ impl<'s, 'e> NamedSide<'s, 'e> {
     {
         self.layer.base.items()[place as usize].allow
     }
-}
-
-// Whether a rule that says so allows.
-fn is_allow(action: Action) -> bool
-    ensures { result ≡ is_allow action }
-{
-    action == Action::Allow
 }

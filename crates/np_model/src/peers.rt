@@ -5,7 +5,7 @@ ghost use Rattle.std.specs.Option.{option_copied};
 ghost use Rattle.np_model.specs.Peers as spec;
 
 use crate::admin_policy::{AdminPeer, AdminPolicy, AdminRule, BasePolicy};
-use np_base::NoMemory;
+use np_base::{NoMemory, push_references};
 use std::alloc::Global;
 
 /// The peers of all rules of the AdminNetworkPolicies and of the baseline, policy by policy, ingress before egress
@@ -36,9 +36,7 @@ fn push_peers<'a>(peers: &mut Vec<&'a AdminPeer>, rules: &'a [AdminRule]) -> Res
         ≡ map (λ peer. peer.now) peers.old.items ++ flat_map (λ rule. rule.peers) rules.now) }
 {
     for rule in rules {
-        for peer in rule.peers.items() {
-            peers.push(peer)?;
-        }
+        push_references(peers, rule.peers.items())?;
     }
     Ok(())
 }

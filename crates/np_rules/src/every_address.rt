@@ -60,11 +60,12 @@ impl FarEnds<AddrConns> for EveryAddress<'_> {
         at_addresses(alloc, &addresses, &conns)
     }
 
-    fn held_once(&self, before: Option<&AddrConns>, set: AddrConns) -> Result<AddrConns, NoMemory> {
+    fn share(&self, before: Option<&AddrConns>, set: &mut AddrConns) -> Result<(), NoMemory> {
         match before {
-            Some(before) if before.same(&set) => before.copy(),
-            _ => Ok(set),
+            Some(before) if before.same(set) => *set = before.copy()?,
+            _ => {}
         }
+        Ok(())
     }
 }
 

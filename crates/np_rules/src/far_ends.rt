@@ -24,7 +24,7 @@ pub(crate) trait FarEnds<S: Cells> {
         ensures { IfOk result (λ set.
             IsSetOf S.has S.in_space (contact_at self.now) set (net_rule_matches namespace.now rule.now)) };
 
-    /// The set of a rule. Where it is large and that of the rule before, both are held once.
-    fn held_once(&self, before: Option<&S>, set: S) -> Result<S, NoMemory>
-        ensures { IfOk result (λ made. made ≡ set) };
+    /// Leaves the set of a rule as it is. Where it is large and that of the rule before, both are held once from now on.
+    fn share(&self, before: Option<&S>, set: &mut S) -> Result<(), NoMemory>
+        ensures { set.new ≡ set.old };
 }

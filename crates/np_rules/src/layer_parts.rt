@@ -19,8 +19,8 @@ pub(crate) fn admin_parts<S: Cells, F: FarEnds<S>>(
 {
     let mut parts: Vec<AdminPart<S>> = Vec::new(alloc);
     for rule in rules {
-        let found = far.admin_set(alloc, rule)?;
-        let set = far.held_once(parts.last().map(|part| &part.set), found)?;
+        let mut set = far.admin_set(alloc, rule)?;
+        far.share(parts.last().map(|part| &part.set), &mut set)?;
         parts.push(AdminPart {
             action: rule.action,
             set,
@@ -41,8 +41,8 @@ pub(crate) fn net_sets<S: Cells, F: FarEnds<S>>(
 {
     let mut sets = Vec::new(alloc);
     for rule in rules {
-        let found = far.net_set(alloc, namespace, rule)?;
-        let set = far.held_once(sets.last(), found)?;
+        let mut set = far.net_set(alloc, namespace, rule)?;
+        far.share(sets.last(), &mut set)?;
         sets.push(set)?;
     }
     Ok(Seq::from_vec(sets))
@@ -67,11 +67,9 @@ pub(crate) fn base_parts<S: Cells, F: FarEnds<S>>(
     Ok(Seq::from_vec(parts))
 }
 
-fn is_allow(action: Action) -> bool
+/// Whether a rule of this action allows what it matches (network-policy-api reference, AdminNetworkPolicyRuleAction).
+pub fn is_allow(action: Action) -> bool
     ensures { result ≡ is_allow action }
 {
-    match action {
-        Action::Allow => true,
-        Action::Deny | Action::Pass => false,
-    }
+    action == Action::Allow
 }

@@ -48,6 +48,7 @@ pub use laws::{
     decider_gives_the_verdict, first_admin_rule_decides, network_policies_alone_isolate,
     networks_alone_tell_families, policies_add_up, rules_add_up, unselected_pods_are_free,
 };
+pub use layer_parts::is_allow;
 pub use net_tier::net_rules_of;
 pub use packet::{End, Packet};
 pub use pod_rules::PodRules;

@@ -39,7 +39,7 @@ impl FarEnds<ConnSet> for OneEnd<'_> {
         }
     }
 
-    fn held_once(&self, before: Option<&ConnSet>, set: ConnSet) -> Result<ConnSet, NoMemory> {
-        set.held_once(before)
+    fn share(&self, before: Option<&ConnSet>, set: &mut ConnSet) -> Result<(), NoMemory> {
+        set.share_with(before)
     }
 }

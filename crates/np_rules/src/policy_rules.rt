@@ -1,5 +1,5 @@
 //! The policies that speak of a pod.
-ghost use Rattle.std.specs.Prelude.{◌≡◌, ◌+◌, ◌++◌, length, map, flat_map, AllPairs, IfOk, OnOk};
+ghost use Rattle.std.specs.Prelude.{◌≡◌, ◌+◌, length, map, flat_map, AllPairs, IfOk};
 ghost use Rattle.np_model.specs.Prelude.{PolicyStandsBefore};
 ghost use Rattle.np_rules.specs.PolicyRules.{AreIsolating, AreSelecting};
 ghost use Rattle.np_rules.specs.Views.{pod_view};
@@ -9,7 +9,7 @@ use crate::net_tier::isolating_rules;
 use crate::own_policies::own_policies;
 use crate::selection::subject_selects;
 use crate::views::PodView;
-use np_base::{NoMemory, Steps};
+use np_base::{NoMemory, Steps, push_references};
 use np_model::{AdminPolicy, AdminRule, Direction, NetPolicy, NetRule};
 use std::alloc::Global;
 use std::sync::ledger::Ledger;
@@ -70,7 +70,7 @@ pub(crate) fn rules_of<'a, R>(
 {
     let mut rules = Vec::new(alloc);
     for policy in policies {
-        push_all(&mut rules, policy.rules)?;
+        push_references(&mut rules, policy.rules)?;
     }
     Ok(rules)
 }
@@ -82,15 +82,4 @@ pub(crate) fn count_rules<R, L: Ledger>(policies: &[PolicyRules<'_, R>], steps: 
     for policy in policies {
         steps.add(policy.rules.len() as u64);
     }
-}
-
-// Puts references to the items last.
-fn push_all<'a, T>(references: &mut Vec<&'a T>, items: &'a [T]) -> Result<(), NoMemory>
-    ensures { OnOk result (map (λ item. item.now) references.new.items
-        ≡ map (λ item. item.now) references.old.items ++ items.now) }
-{
-    for item in items {
-        references.push(item)?;
-    }
-    Ok(())
 }

@@ -166,8 +166,8 @@ fn rules_with_conns<'a>(
 {
     let mut made: Vec<RuleConns<'a>> = Vec::new(alloc);
     for rule in rules {
-        let found = ends.entries_set(alloc, rule.ports.items())?;
-        let conns = found.held_once(made.last().map(|rule| &rule.conns))?;
+        let mut conns = ends.entries_set(alloc, rule.ports.items())?;
+        conns.share_with(made.last().map(|rule| &rule.conns))?;
         made.push(RuleConns { rule, conns })?;
     }
     Ok(made)

@@ -8,7 +8,7 @@ use np_json::{FaultKind, ReadFault};
 use np_labels::{Op, Selector};
 use np_model::{
     Action, AdminPeer, AdminPolicy, AdminPort, AdminRule, BasePolicy, NetPeer, NetPolicy, NetPort,
-    NetRule,
+    NetRule, admin_peers,
 };
 use np_policies::{Policy, read_policy};
 use serde_json::Value;
@@ -283,18 +283,42 @@ static BASELINE: &str =
 
 fn denies_all_pods(rules: &[AdminRule]) -> bool {
     match rules {
-        [rule] => rule.action == Action::Deny && are_all_pods(rule.peers.items()),
+        [rule] => match rule.peers.items() {
+            [peer] => rule.action == Action::Deny && is_all_pods(peer),
+            _ => false,
+        },
         _ => false,
     }
 }
 
-fn are_all_pods(peers: &[AdminPeer]) -> bool {
-    match peers {
-        [AdminPeer::Pods { namespaces, pods }] => {
+fn is_all_pods(peer: &AdminPeer) -> bool {
+    match peer {
+        AdminPeer::Pods { namespaces, pods } => {
             asks_for_nothing(namespaces) && asks_for_nothing(pods)
+        }
+        AdminPeer::Networks { .. } => false,
+    }
+}
+
+// Whether all pods are the one peer of the baseline that was read.
+fn has_one_peer(rt: &impl Abort, alloc: Global, read: &Result<Option<Policy>, ReadFault>) -> bool {
+    match read {
+        Ok(Some(Policy::Base(base))) => {
+            let peers = admin_peers(alloc, &[], Some(base)).expect(rt, "peers");
+            match peers.as_slice() {
+                [peer] => is_all_pods(peer),
+                _ => false,
+            }
         }
         _ => false,
     }
+}
+
+#[test]
+fn example_admin_peers(rt: HostRuntime) {
+    let alloc = rt.alloc();
+    let read = read_example(&rt, alloc, Example::Baseline);
+    assert!(rt; has_one_peer(&rt, alloc, &read), "admin_peers");
 }
 
 fn is_baseline_of_the_reference(base: &BasePolicy) -> bool {

@@ -13,22 +13,21 @@ impl Written for ConnSet {
     }
 }
 
-// Stops the test where a set that is held once with the one before it is not what its text writes.
-fn expect_held_once(rt: &impl Abort, alloc: Global, before: &ConnSet, text: &str) {
-    let set = ConnSet::read(rt, alloc, text);
-    let held = set
-        .held_once(Some(before))
+// Stops the test where a set that may be held once with the one before it is not what its text writes.
+fn expect_shared(rt: &impl Abort, alloc: Global, before: &ConnSet, text: &str) {
+    let mut set = ConnSet::read(rt, alloc, text);
+    set.share_with(Some(before))
         .expect(rt, "a set that is held once");
-    assert!(rt; held.same(&ConnSet::read(rt, alloc, text)), "held_once");
+    assert!(rt; set.same(&ConnSet::read(rt, alloc, text)), "share_with");
 }
 
 // A set stays what it is, whether the one before it has the same ports or others.
 #[test]
-fn sets_held_once(rt: HostRuntime) {
+fn shared_sets(rt: HostRuntime) {
     let alloc = rt.alloc();
     let before = ConnSet::read(&rt, alloc, "TCP 80-89,100,200");
-    expect_held_once(&rt, alloc, &before, "TCP 80-89,100,200");
-    expect_held_once(&rt, alloc, &before, "TCP 80-89,100,300");
+    expect_shared(&rt, alloc, &before, "TCP 80-89,100,200");
+    expect_shared(&rt, alloc, &before, "TCP 80-89,100,300");
 }
 
 // Ports in no order, of which one stands twice, and which touch.

@@ -16,6 +16,8 @@ mod labels;
 #[cfg(test)]
 mod pieces;
 #[cfg(test)]
+mod references;
+#[cfg(test)]
 mod requirements;
 #[cfg(test)]
 mod sets;

@@ -4,7 +4,3 @@ use Rattle.np_model.proofs.peers.push_peers.Given as goal
 -- the peers of the rules so far stand last
 abbrev pub invariant-loop-rule : goal.invariant-loop-rule
 invariant-loop-rule l = map (λ peer. peer.now) l.peers.items ≡ map (λ peer. peer.now) l.initial.peers.items ++ flat_map (λ rule. rule.peers) (take l.rule-index l.rules)
-
--- behind them, those of this rule so far
-abbrev pub invariant-loop-peer : goal.invariant-loop-peer
-invariant-loop-peer l = map (λ peer. peer.now) l.peers.items ≡ map (λ peer. peer.now) l.initial.peers.items ++ take l.peer-index l.peer-items

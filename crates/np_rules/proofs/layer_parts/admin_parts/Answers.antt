@@ -9,5 +9,5 @@ loop-rule-preserved g c = Pairwise-next-map (IsAdminPart g.S.Cells.has g.S.Cells
     (record {
       action = refl;
       members = subst (λ set. IsSetOf g.S.Cells.has g.S.Cells.in_space (g.F.FarEnds.contact_at c.args.far.now) set (admin_rule_matches c.rule-item.result.now))
-          (sym c.in_ok-set.ensures) c.in_ok-found.ensures;
+          (sym c.share.ensures) c.in_ok-set.ensures;
     })

@@ -1,5 +1,5 @@
 use Rattle.std.proofs.Common.{◌≡◌, ◌++◌, map, take}
-use Rattle.np_rules.proofs.policy_rules.push_all.Given as goal
+use Rattle.np_base.proofs.references.push_references.Given as goal
 
 -- the items so far stand last
 abbrev pub invariant-loop-item : goal.invariant-loop-item
