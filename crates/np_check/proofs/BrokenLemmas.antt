@@ -7,7 +7,8 @@ use Rattle.np_addr.specs.Prelude.{AddressRanges, IsAddressSet, set_has}
 use Rattle.np_check.specs.Prelude.{Address, BreakingAddress, Family, Four, PortSpot, Range, Six, Wanted, breaks, broken_at, broken_in, family_addresses, first_broken_of, first_given, first_number, first_spot, with_spot}
 use Rattle.np_addr.specs.declared.address.Family.TheVariants as family
 use Rattle.np_base.specs.Ranges.{IsAscending, holds}
-use Rattle.np_check.proofs.FirstLemmas.{first_of-append, first_of-filter, first_of-map, first_of-none, none_both, range-append}
+use Rattle.np_check.proofs.FirstLemmas.{first_of-append, first_of-filter, first_of-map, first_of-none, none_both}
+use Rattle.np_table.proofs.PlaceLemmas.{range-append}
 use Rattle.np_check.proofs.RangeLemmas.{first_number-is}
 use Rattle.np_check.proofs.SpotLemmas.{breaks-same}
 use Rattle.np_conns.specs.Prelude.{Conns, has_spot}

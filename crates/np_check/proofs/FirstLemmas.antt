@@ -1,5 +1,5 @@
 -- The first of a list. For AddressLemmas, BrokenLemmas and 9 more.
-use Rattle.std.proofs.Common.{◌≡◌, ℕ, zero, suc, ◌+◌, ◌<◌, ◌≤◌, List, [], ◌∷◌, ◌++◌, Bool, true, false, Option, Some, None, All, map, option_map, refl, sym, ap, ◌∙◌, inl, inr, arith, ◌⊎◌, add-zero, zero-add, if◌then◌else◌}
+use Rattle.std.proofs.Common.{◌≡◌, ℕ, zero, suc, ◌+◌, ◌<◌, ◌≤◌, List, [], ◌∷◌, ◌++◌, Bool, true, false, Option, Some, None, All, map, option_map, refl, sym, ap, ◌∙◌, inl, inr, arith, ◌⊎◌, if◌then◌else◌}
 use Rattle.std.specs.Prelude.{filter}
 use Rattle.std.specs.List.{find, range_with_len}
 use Rattle.std.specs.Option.{option_or}
@@ -139,11 +139,3 @@ none-found test low (suc count) none n from to =
       | inl passes ↦ absurd (none-some low (sym (rw passes at none)))
       | inr fails ↦ elim (cases_eq low n) [ inl here ↦ ap test (sym here) ∙ fails | inr other ↦ none-found test (low + 1) count (rw fails at none) n (omega arith) (omega arith) ]
     ]
-
-pub range-append : (low a b : ℕ) → range_with_len low (a + b) ≡ range_with_len low a ++ range_with_len (low + a) b
-range-append low zero b = rw (zero-add b, add-zero low)
-range-append low (suc a) b =
-    let rest = range-append (low + 1) a b in
-    let count : suc a + b ≡ suc (a + b) = omega arith in
-    let next : low + 1 + a ≡ low + suc a = omega arith in
-    rw count (ap (λ (ns : List ℕ). low ∷ ns) (rest ∙ ap (λ (m : ℕ). range_with_len (low + 1) a ++ range_with_len m b) next))

@@ -1,23 +1,18 @@
 -- Nothing is found exactly where the statement holds. For `nothing_is_found_where_a_statement_holds` and crates above.
-use Rattle.std.proofs.Common.{◌≡◌, ◌≢◌, ℕ, ◌+◌, ◌<◌, ◌==◌, ◌&&◌, nat_le, List, [], ◌∷◌, Bool, true, false, Option, Some, None, All, Contains, length, slice_index, refl, sym, ap, subst, ◌∙◌, inl, inr, arith, if◌then◌else◌}
-use Rattle.std.specs.List.{slice_get}
-use Rattle.std.specs.Option.{option_map, option_map_or}
-use Rattle.std.proofs.lemmas.Bool.{and_parts, cases_Bool, cases_eq, leb-true, eq-eqb}
+use Rattle.std.proofs.Common.{◌≡◌, ℕ, Bool, true, None, All, Contains, refl, sym, ap, subst, ◌∙◌, inl, inr}
+use Rattle.std.specs.Option.{option_map}
+use Rattle.std.proofs.lemmas.Bool.{cases_Bool}
 use Rattle.std.proofs.lemmas.List.Elements.{All-contains}
-use Rattle.std.proofs.lemmas.Option.{slice_get-map}
 use Rattle.np_addr.specs.Prelude.{family_of}
-use Rattle.np_check.specs.Prelude.{Address, At, Egress, EstateLists, Family, HasAddress, Holds, Ingress, PlaceEnd, PortSpot, Question, Wanted, Work, addresses_of, ascends_from, breaks, complies, counterexample_at, counterexample_between, counterexample_from, counterexample_in, counterexample_of, first_given, first_spot, number_of_address}
-use Rattle.np_classes.specs.Classes.{members}
+use Rattle.np_check.specs.Prelude.{Address, At, Egress, EstateLists, Family, HasAddress, Holds, Ingress, PlaceEnd, PortSpot, Question, Wanted, Work, addresses_of, breaks, complies, counterexample_at, counterexample_between, counterexample_from, counterexample_in, counterexample_of, first_given, first_spot, number_of_address}
 use Rattle.np_check.proofs.FirstLemmas.{first_of-one, none_both}
 use Rattle.np_check.proofs.NoneLemmas.{both_none, is_whole, no_address, no_addresses, no_spot, no_spots, none_all, none_at, none_map, not_broken}
 use Rattle.np_check.proofs.PairLemmas.{between-alone, between-apart, from-work}
-use Rattle.np_check.proofs.SortedLemmas.{filtered}
 use Rattle.np_check.proofs.WholeLemmas.{of-question}
 use Rattle.np_conns.specs.Prelude.{Conns, has_spot, is_spot}
 use Rattle.np_model.specs.Prelude.{IsLawful, families_of}
-use Rattle.np_fold.specs.Prelude.{Workload, first_of as first_named, folding_of, members_of, named_first_pods, pods_alike, workload, workload_number, workloads_of}
-use Rattle.np_names.specs.declared.named.Named.{Named}
-use Rattle.np_kinds.proofs.MemberLemmas.{destination-member, member-number, members-some, members-within, not-alone, own-member, source-member}
+use Rattle.np_fold.specs.Prelude.{folding_of, workload_number}
+use Rattle.np_kinds.proofs.MemberLemmas.{destination-member, member-number, members-some, members-within, not-alone, own-member, pods-apart, source-member}
 use Rattle.np_kinds.proofs.PairLemmas.{between_pods-pair_allows, pair_allows-between, with_address-address_allows}
 use Rattle.np_kinds.specs.Prelude.{IsWorkload, address_allows, destination_pod, is_alone, pair_allows, source_pod}
 
@@ -97,48 +92,6 @@ holds lists question lawful none =
           (sym (from_address lists question.wanted question.conns b address) ∙ are.ingress address b has in_destination.1) speaks.0 speaks.1;
     }
 
--- ---- two pods that stand for two workloads
-
-first_second : (numbers : List ℕ) (low : ℕ) → ascends_from low numbers ≡ true → 1 < length numbers → slice_index numbers 0 ≢ slice_index numbers 1
-first_second [] low ascends two = absurd (omega arith)
-first_second (n ∷ []) low ascends two = absurd (omega arith)
-first_second (m ∷ n ∷ numbers) low ascends two =
-    let rest = (and_parts (nat_le low m) (ascends_from (m + 1) (n ∷ numbers)) ascends).1 in
-    let above = leb-true (m + 1) n (and_parts (nat_le (m + 1) n) (ascends_from (n + 1) numbers) rest).0 in
-    λ same. omega arith
-
-members_filtered : (lists : EstateLists) (found : Option Named) (low : ℕ) → ascends_from 0 (option_map_or (λ (one : Workload). one.members) (option_map (workload lists) found) []) ≡ true
-unfolding members
-members_filtered lists None low = refl
-members_filtered lists (Some one) low = filtered (pods_alike lists (first_named lists one)) 0 (length lists.pods)
-
-members_ascend : (lists : EstateLists) (number : ℕ) → ascends_from 0 (members_of (folding_of lists) number) ≡ true
-unfolding folding_of workloads_of
-members_ascend lists number =
-    ap (λ (found : Option Workload). ascends_from 0 (option_map_or (λ (one : Workload). one.members) found [])) (slice_get-map (workload lists) (named_first_pods lists) number)
-    ∙ members_filtered lists (slice_get (named_first_pods lists) number) 0
-
--- the pods that stand for two workloads differ, unless a workload of one pod meets itself
-stand_apart : (lists : EstateLists) (a b : ℕ) → IsWorkload lists a → IsWorkload lists b → is_alone (folding_of lists) a b ≡ false →
-    source_pod (folding_of lists) a ≢ destination_pod (folding_of lists) a b
-stand_apart lists a b a_in b_in apart same =
-    let folding = folding_of lists in
-    let some = members-some lists folding a refl a_in in
-    let near_has = source-member folding a some in
-    let far_has = destination-member folding a b (members-some lists folding b refl b_in) apart in
-    let near_in = members-within lists folding a (source_pod folding a) refl a_in near_has in
-    let far_in = members-within lists folding b (destination_pod folding a b) refl b_in far_has in
-    elim (cases_eq a b) [
-      | inr differ ↦ differ (sym (member-number lists a (source_pod folding a) near_in near_has) ∙ ap (workload_number lists) same ∙ member-number lists b (destination_pod folding a b) far_in far_has)
-      | inl one ↦
-          let eq : (a == b) ≡ true = eq-eqb a b one in
-          let single : (length (members_of folding a) == 1) ≡ false = sym (ap (λ (first : Bool). first && length (members_of folding a) == 1) eq) ∙ apart in
-          let many : 1 < length (members_of folding a) = grind arith in
-          let second : destination_pod folding a b ≡ slice_index (members_of folding a) 1 = ap (λ (first : Bool). slice_index (members_of folding b) (if first then 1 else 0)) eq ∙ ap
-          (λ (n : ℕ). slice_index (members_of folding n) 1) (sym one) in
-          first_second (members_of folding a) 0 (members_ascend lists a) many (same ∙ second)
-    ]
-
 -- ---- where the statement holds nothing is found
 
 pub found_none : (lists : EstateLists) (question : Question) → IsLawful lists → All (IsWorkload lists) question.source.works → All (IsWorkload lists) question.destination.works →
@@ -162,7 +115,7 @@ found_none lists question lawful sources destinations is =
           all_in question.wanted question.conns (Work a) (Work b) family (pair_allows lists folding a b family) (λ spot is_one has.
           ap (complies question.wanted) (pair_allows-between lists folding a b family spot apart)
           ∙ is.pods (source_pod folding a) (destination_pod folding a b) family spot (near_in a a_in, subst (Contains question.source.works) (sym (near_of a a_in)) in_source)
-          (far_in, subst (Contains question.destination.works) (sym far_of) in_destination) (stand_apart lists a b a_in b_in apart) listed (is_one, has)))
+          (far_in, subst (Contains question.destination.works) (sym far_of) in_destination) (pods-apart lists a b a_in b_in apart) listed (is_one, has)))
     ] in
     let egress : (a : ℕ) (address : Address) → IsWorkload lists a → Contains question.source.works a → HasAddress question.destination address → gives (Work a) (At address) ≡ None =
     λ a address a_in in_source has.

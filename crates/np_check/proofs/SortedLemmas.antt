@@ -1,8 +1,7 @@
--- The orders of ends, families and protocols, and lists that stand in one. For HoldLemmas, LeastLemmas and 3 more.
-use Rattle.std.proofs.Common.{◌≡◌, ℕ, zero, suc, ◌+◌, ◌<◌, ◌≤◌, nat_le, nat_lt, List, [], ◌∷◌, ◌++◌, Bool, true, false, map, refl, sym, inl, inr, arith}
-use Rattle.std.specs.Prelude.{filter}
-use Rattle.std.specs.List.{AllByRecursion, range_with_len}
-use Rattle.std.proofs.lemmas.Bool.{and_from, and_parts, cases_Bool, le-leb, le-ltb, leb-true, lt-ltb, ltb-true, true≢false}
+-- The orders of ends, families and protocols, and lists that stand in one. For LeastLemmas, MergeLemmas and 2 more.
+use Rattle.std.proofs.Common.{◌≡◌, ℕ, ◌+◌, ◌<◌, nat_le, nat_lt, List, [], ◌∷◌, ◌++◌, Bool, true, false, map, refl, sym, arith}
+use Rattle.std.specs.List.{AllByRecursion}
+use Rattle.std.proofs.lemmas.Bool.{and_parts, le-ltb, leb-true, lt-ltb, ltb-true, true≢false}
 use Rattle.np_check.specs.Prelude.{Address, At, Family, Four, PlaceEnd, Proto, Sctp, Six, Tcp, Udp, Work, address_before, ascends_from, comes_before, family_before, proto_before}
 use Rattle.np_addr.specs.declared.address.Family.TheVariants as family
 use Rattle.np_base.proofs.Each.{All-append, All-weaker}
@@ -44,25 +43,6 @@ works_sorted [] low ascends = tt
 works_sorted (n ∷ numbers) low ascends =
     let rest = (and_parts (nat_le low n) (ascends_from (n + 1) numbers) ascends).1 in
     (all_above numbers (n + 1) n (omega arith) rest, works_sorted numbers (n + 1) rest)
-
--- ---- numbers that ascend
-
--- numbers that ascend from a greater one on ascend from a lesser one on
-lower : (least low : ℕ) (numbers : List ℕ) → low ≤ least → ascends_from least numbers ≡ true → ascends_from low numbers ≡ true
-lower least low [] below ascends = refl
-lower least low (n ∷ numbers) below ascends =
-    let parts = and_parts (nat_le least n) (ascends_from (n + 1) numbers) ascends in
-    let above = leb-true least n parts.0 in
-    and_from (nat_le low n) (ascends_from (n + 1) numbers) (le-leb low n (omega arith)) parts.1
-
--- numbers that are filtered ascend
-pub filtered : (test : ℕ → Bool) (low count : ℕ) → ascends_from low (filter test (range_with_len low count)) ≡ true
-filtered test low zero = refl
-filtered test low (suc count) =
-    elim (cases_Bool (test low)) [
-      | inl passes ↦ rw passes (and_from (nat_le low low) (ascends_from (low + 1) (filter test (range_with_len (low + 1) count))) (le-leb low low (omega arith)) (filtered test (low + 1) count))
-      | inr fails ↦ rw fails (lower (low + 1) low (filter test (range_with_len (low + 1) count)) (omega arith) (filtered test (low + 1) count))
-    ]
 
 -- ---- orders
 

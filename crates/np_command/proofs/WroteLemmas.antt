@@ -1,7 +1,7 @@
 -- What was written of a reply. For crates above.
 use Rattle.std.proofs.Common.{◌≡◌, ℕ, List, Result, Err, ap, ◌∙◌}
 use Rattle.np_command.proofs.SinkLemmas.{TookLess-kept}
-use Rattle.np_command.specs.Prelude.{CannotRead, CannotWrite, Failure, Fault, IsKept, NoMemory, Refused, Refuses, SinkTrace, TooLarge, Usage, WriteFault, Wrote, text_in}
+use Rattle.np_command.specs.Prelude.{CannotRead, CannotWrite, Failure, Fault, IsKept, NoMemory, Refused, Refuses, SinkTrace, TooLarge, Usage, Wrote, text_in}
 use Rattle.np_command.specs.declared.write_fault.WriteFault.TheVariants as unwritten
 
 -- Where a step finds a fault, nothing is written of a reply that has that fault then.

@@ -1,10 +1,6 @@
 -- What a report of `explain` says. For `ends_between`.
-use Rattle.std.proofs.Common.{◌≡◌, ◌≢◌, ◌<◌, ℕ, List, [], ◌∷◌, cond, length, get_or, Bool, true, false, ◌==◌, Less, Equal, inr, Contains, Option, None, Some, Result, Ok, Err, if◌then◌else◌, arith, refl, sym, ap, subst, ◌∙◌}
-use Rattle.std.proofs.lemmas.Bool.{eq-eqb, false≢true, ne_eqb}
-use Rattle.std.proofs.lemmas.Map.Keys.{Less-from_sorted}
-use Rattle.std.proofs.lemmas.Cmp.{nat_cmp_total}
-use Rattle.std.specs.Cmp.{tied_itself}
-use Rattle.std.specs.Ordering.{nat_cmp}
+use Rattle.std.proofs.Common.{◌≡◌, ◌≢◌, ◌<◌, ℕ, List, [], ◌∷◌, cond, length, Bool, true, false, inr, Contains, Option, None, Some, Result, Ok, Err, if◌then◌else◌, arith, refl, sym, ap, subst, ◌∙◌}
+use Rattle.std.proofs.lemmas.Bool.{false≢true, ne_eqb}
 use Rattle.np_base.proofs.Lists.{Contains-one}
 use Rattle.np_command_explain.specs.Prelude.{Address, AreEnds, AreNamed, AskedEnd, At, End, EndWord, EstateLists, ExplainedEnds, Explains, Explanation, Family, Fault, Four, HasPods, HaveBothFamilies, IsAsked, IsRightIn, SameEnd, Six, Work, are_one, asked_end, destination_end, ends_between, explanations, in_families, one_for_all, one_for_each, shown_of_both, source_end}
 use Rattle.np_command.proofs.EndLemmas.{named_workload}
@@ -14,14 +10,13 @@ use Rattle.np_model.specs.Prelude.{IsLawful, families_of, has_family, or_four}
 use Rattle.np_model.specs.declared.pod.Pod.{Pod}
 use Rattle.np_explain.proofs.ExplanationLemmas.{explanation-right, right-alike, same_sides-Decides, same_sides-right}
 use Rattle.np_explain.specs.Prelude.{IsRightFor, explanation_of, family_asked, only_family, packet_families, same_sides}
-use Rattle.np_fold.proofs.WorkloadLemmas.{pods-ascend}
 use Rattle.np_fold.specs.Prelude.{Folding, folding_of, members_of, number_named, workload_number}
 use Rattle.np_routes.proofs.KindRoutes.{one_workload-alike}
 use Rattle.np_rules.specs.Prelude.{IsEndOf, end_of}
 use Rattle.np_rules.specs.declared.packet.End.TheVariants as end
 use Rattle.np_kinds.proofs.KindVerdicts.{SameKindEnd, SameKindEnd-ends, got-same, sent-same}
-use Rattle.np_kinds.proofs.MemberLemmas.{destination-member, member-number, members-some, members-within, source-member}
-use Rattle.np_kinds.specs.Prelude.{IsWorkload, destination_pod, is_alone, source_pod}
+use Rattle.np_kinds.proofs.MemberLemmas.{destination-member, member-number, members-some, members-within, pods-apart, source-member}
+use Rattle.np_kinds.specs.Prelude.{IsWorkload, destination_pod, source_pod}
 use Rattle.np_args.specs.declared.end_word.EndWord.TheVariants as word
 use Rattle.np_addr.specs.Prelude.{family_of}
 
@@ -54,45 +49,6 @@ asked-there lists (word.Named name) asked is = by (number_named (folding_of list
 pub asked-pods : (lists : EstateLists) (asked : AskedEnd) → IsAsked lists asked → HasPods (folding_of lists) asked
 asked-pods lists (At address) there = tt
 asked-pods lists (Work number) there = (there, members-some lists (folding_of lists) number refl there)
-
-two : (count : ℕ) → 0 < count → (count == 1) ≡ false → 1 < count
-two count some other = grind arith
-
--- the pods that stand for two workloads are two
-pods-apart : (lists : EstateLists) (a b : ℕ) → IsWorkload lists a → IsWorkload lists b → is_alone (folding_of lists) a b ≡ false
-    → source_pod (folding_of lists) a ≢ destination_pod (folding_of lists) a b
-pods-apart lists a b a_in b_in alone same = by (a == b) refl
-  where
-    folding : Folding
-    folding = folding_of lists
-
-    a_has : Contains (members_of (folding_of lists) a) (source_pod (folding_of lists) a)
-    a_has = source-member (folding_of lists) a (members-some lists (folding_of lists) a refl a_in)
-
-    b_has : Contains (members_of (folding_of lists) b) (destination_pod (folding_of lists) a b)
-    b_has = destination-member (folding_of lists) a b (members-some lists (folding_of lists) b refl b_in) alone
-
-    number : (w p : ℕ) → IsWorkload lists w → Contains (members_of (folding_of lists) w) p → workload_number lists p ≡ w
-    number w p w_in has = member-number lists w p (members-within lists (folding_of lists) w p refl w_in has) has
-
-    one : a ≡ b
-    one = sym (number a (source_pod (folding_of lists) a) a_in a_has) ∙ ap (workload_number lists) same ∙ number b (destination_pod (folding_of lists) a b) b_in b_has
-
-    by : (equal : Bool) → (a == b) ≡ equal → ⊥
-    by false is = false≢true (sym is ∙ eq-eqb a b one)
-    by true is =
-        let pods = members_of (folding_of lists) b in
-        let near : source_pod (folding_of lists) a ≡ get_or pods 0 0 = ap (λ (number : ℕ). get_or (members_of (folding_of lists) number) 0 0) one in
-        let far : destination_pod (folding_of lists) a b ≡ get_or pods 1 0 = rw is refl in
-        let lone : (length (members_of (folding_of lists) a) == 1) ≡ false = rw is at alone in
-        let more : 1 < length pods = two (length pods) (members-some lists (folding_of lists) b refl b_in) (ap (λ (number : ℕ). length (members_of (folding_of lists) number) == 1) (sym one) ∙ lone) in
-        let less : nat_cmp (get_or pods 0 0) (get_or pods 1 0) ≡ Less = Less-from_sorted nat_cmp pods 0 1 0 (pods-ascend lists b) (omega arith) more in
-        let equal : get_or pods 0 0 ≡ get_or pods 1 0 = sym near ∙ same ∙ far in
-        let tie : nat_cmp (get_or pods 0 0) (get_or pods 1 0) ≡ Equal = ap (nat_cmp (get_or pods 0 0)) (sym equal) ∙ tied_itself nat_cmp_total (get_or pods 0 0) in
-        apart (sym less ∙ tie)
-      where
-        apart : Less ≡ Equal → ⊥
-        apart is = cc
 
 -- what stands for an end is there
 near-there : (lists : EstateLists) (asked : AskedEnd) → IsAsked lists asked → IsEndOf lists (source_end (folding_of lists) asked)

@@ -1,7 +1,7 @@
 -- What a report of `exposure` says of the bytes of its inputs, and why there is none.
 use Rattle.std.specs.Prelude.{◌≡◌, ◌≢◌, ◌<◌, ◌≤◌, ◌-◌, ◌^◌, ℕ, List, [], ◌∷◌, ◌++◌, Contains, flat_map, map, min, slice_index, true, None, Some, Option, Ok}
 use Rattle.std.specs.List.{list_all}
-use Rattle.np_command_exposure.specs.Types.{Direction, Egress, EstateLists, ExposureRow, Fault, Format, Ingress, RowText, Stranger, TooManyPatterns, UnknownEnd}
+use Rattle.np_command_exposure.specs.Types.{Direction, Egress, EstateLists, ExposureRow, Fault, Format, Ingress, Stranger, TooManyPatterns, UnknownEnd}
 use Rattle.np_command.specs.Prelude.{SinkTrace, TookWhole, lists_of}
 use Rattle.np_command_exposure.specs.Report.{exposure_row_text}
 use Rattle.np_exposure.specs.Prelude.{FirstRowTells, IsEachFirst, are_well, is_hypothetical, mentions, weight}

@@ -1,20 +1,12 @@
 -- Verdicts by NetworkPolicies alone are the same in whatever order these stand. For PromiseLemmas.
-use Rattle.std.proofs.Common.{◌≡◌, ℕ, List, [], Bool, true, ◌&&◌, if◌then◌else◌, refl, sym, ap, ◌∙◌}
+use Rattle.std.proofs.Common.{◌≡◌, ℕ, List, Bool, true, ◌&&◌, if◌then◌else◌, refl, sym, ap, ◌∙◌}
 use Rattle.std.specs.Prelude.{IsPermutation}
-use Rattle.std.specs.List.{list_any}
 use Rattle.std.proofs.lemmas.List.Sorted.{list_any-IsPermutation}
 use Rattle.np_command_flatten.specs.Prelude.{Direction, EstateLists, Family, NetPolicy, PortSpot, with_policies}
 use Rattle.np_model.specs.declared.direction.Direction.TheVariants.{Egress, Ingress}
-use Rattle.np_rules.specs.Prelude.{Contact, ModelEnd, ModelPacket, PodEnd, address, allows, contact_of, end_allows, is_isolated, isolates, net_places_of, net_selects, permits, placed_net_matches, pod, pod_at, side_allows}
-use Rattle.np_flatten.proofs.OnePolicy.{any-flat_map}
+use Rattle.np_rules.specs.Prelude.{Contact, ModelEnd, ModelPacket, PodEnd, address, allows, contact_of, end_allows, is_isolated, isolates, permits, pod, pod_at, side_allows}
+use Rattle.np_flatten.proofs.OnePolicy.{permits-any, policy_permits}
 use Rattle.np_kinds.specs.Prelude.{address_numbered, between_pods, with_address}
-
--- whether some rule of a policy that selects the pod matches
-abbrev policy_permits : Direction → PodEnd → Contact → NetPolicy → Bool
-policy_permits direction p contact policy = list_any (placed_net_matches contact) (if net_selects policy p then net_places_of direction policy else [])
-
-permits-any : (policies : List NetPolicy) (direction : Direction) (p : PodEnd) (contact : Contact) → permits policies direction p contact ≡ list_any (policy_permits direction p contact) policies
-permits-any policies direction p contact = any-flat_map (placed_net_matches contact) (λ policy. if net_selects policy p then net_places_of direction policy else []) policies
 
 module _ (lists : EstateLists) (policies nets : List NetPolicy) (same : IsPermutation policies nets) where
   isolated-same : (direction : Direction) (p : PodEnd) → is_isolated nets direction p ≡ is_isolated policies direction p

@@ -101,7 +101,7 @@ conns_of-set conns passes well agrees = sym (conns_of-has_spot conns well) ∙ c
 
 -- ---- when two sets are the same
 
-are_same_range-Decides : (a b : Range ℕ) → Decides (are_same_range a b) (a ≡ b)
+pub are_same_range-Decides : (a b : Range ℕ) → Decides (are_same_range a b) (a ≡ b)
 are_same_range-Decides a b =
     let ends = Decides-and (a.lo == b.lo) (a.hi == b.hi) (Decides-eqb a.lo b.lo) (Decides-eqb a.hi b.hi) in (
       λ same. let both = ends.0 same in ap (λ (n : ℕ). record { lo = n; hi = a.hi }) both.0 ∙ ap (λ (n : ℕ). record { lo = b.lo; hi = n }) both.1,

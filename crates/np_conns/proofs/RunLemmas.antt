@@ -7,7 +7,7 @@ use Rattle.np_base.proofs.Ranges.{is_within-past, holds-before, IsAscending-earl
 use Rattle.std.specs.List.{AllByRecursion}
 
 -- a port put before the runs above it keeps them ascending
-onto_runs-ascends : (port last : ℕ) (above : List (Range ℕ)) → port ≤ last → IsAscending (λ p. p) (port + 1) last above → IsAscending (λ p. p) port last (onto_runs port above)
+pub onto_runs-ascends : (port last : ℕ) (above : List (Range ℕ)) → port ≤ last → IsAscending (λ p. p) (port + 1) last above → IsAscending (λ p. p) port last (onto_runs port above)
 onto_runs-ascends port last [] within ascends = (omega arith, omega arith, within, tt)
 onto_runs-ascends port last (run ∷ above) within ascends =
     cond_both (eqb run.lo (port + 1)) _ _ (λ ranges. IsAscending (λ p. p) port last ranges)

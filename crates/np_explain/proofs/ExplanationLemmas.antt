@@ -1,15 +1,15 @@
 -- The explanation of two ends: its connections, and when two are alike. For `explain_sides`, `explanations_are_right` and 3 more.
-use Rattle.std.proofs.Common.{◌≡◌, ◌↔◌, IsTrue, List, [], ◌∷◌, Bool, true, false, ◌&&◌, ◌||◌, MatchBool, not, filter, map, refl, subst, sym, ap, ap₂, ◌∙◌, ℕ, ◌==◌}
+use Rattle.std.proofs.Common.{◌≡◌, ◌↔◌, IsTrue, List, [], ◌∷◌, Bool, true, false, ◌&&◌, ◌||◌, MatchBool, not, filter, map, refl, subst, sym, ap, ap₂, ◌∙◌, ℕ}
 use Rattle.std.specs.Bool.{Decides}
 use Rattle.std.specs.List.{list_any}
 use Rattle.std.specs.Cmp.Lexicographic.{pointwise}
-use Rattle.std.proofs.lemmas.Bool.Decides.{Decides-and, Decides-eqb}
+use Rattle.std.proofs.lemmas.Bool.Decides.{Decides-and}
 use Rattle.std.proofs.lemmas.Slice.Eq.{slice_eq-Decides}
 use Rattle.std.proofs.Math.Bool.{or-false, and-true, and-false}
 use Rattle.np_explain.specs.Prelude.{AreRightParts, Decider, Egress, End, EstateLists, Explanation, Family, Ingress, IsRightFor, NoSide, Part, PortSpot, Range, decider_between, explanation_of, packet_between, parts_of, passes_between, same_conns, same_decider, same_part, same_parts, same_sides, some_allows}
 use Rattle.np_base.proofs.Bools.{not_itself}
 use Rattle.np_base.specs.Ranges.{are_same_range}
-use Rattle.np_conns.proofs.ConnLemmas.{conns_of-has, conns_of-set}
+use Rattle.np_conns.proofs.ConnLemmas.{are_same_range-Decides, conns_of-has, conns_of-set}
 use Rattle.np_conns.specs.Prelude.{Conns, IsConns, conns_of, has_spot, is_spot}
 use Rattle.np_explain.proofs.OneListLemmas.{both_say, one_part}
 use Rattle.np_explain.proofs.RightPartsLemmas.{made_are_right}
@@ -112,17 +112,8 @@ right-alike lists s d s' d' family made sends receives right = record {
 
 -- ---- the same parts
 
-same_range-Decides : (a b : Range ℕ) → Decides (are_same_range a b) (a ≡ b)
-same_range-Decides a b =
-    let parts = Decides-and (a.lo == b.lo) (a.hi == b.hi) (Decides-eqb a.lo b.lo) (Decides-eqb a.hi b.hi) in
-    let of_lo : ℕ → Range ℕ = λ lo. record { lo = lo; hi = a.hi } in
-    let of_hi : ℕ → Range ℕ = λ hi. record { lo = b.lo; hi = hi } in (
-      λ same. ap of_lo (parts.0 same).0 ∙ ap of_hi (parts.0 same).1,
-      λ same. parts.1 (ap (λ (range : Range ℕ). range.lo) same, ap (λ (range : Range ℕ). range.hi) same),
-    )
-
 ranges-Decide : (a b : List (Range ℕ)) → Decides (pointwise are_same_range a b) (a ≡ b)
-ranges-Decide a b = slice_eq-Decides same_range-Decides a b (pointwise are_same_range a b) refl
+ranges-Decide a b = slice_eq-Decides are_same_range-Decides a b (pointwise are_same_range a b) refl
 
 same_conns-Decides : (a b : Conns) → Decides (same_conns a b) (a ≡ b)
 same_conns-Decides a b =

@@ -1,5 +1,5 @@
 -- One set of spots for each decider. `decides` says what decides a spot.
-use Rattle.std.specs.Prelude.{◌≡◌, ◌≢◌, ◌↔◌, ℕ, ◌+◌, ◌*◌, ◌<◌, List, Bool, true, IsTrue, All, AllPairs}
+use Rattle.std.specs.Prelude.{◌≡◌, ◌≢◌, ◌↔◌, ℕ, ◌+◌, ◌*◌, ◌<◌, List, true, IsTrue, All, AllPairs}
 use Rattle.std.specs.List.{list_any}
 use Rattle.np_conns.specs.Prelude.{Conns, IsConns, has_spot, is_spot, proto_number}
 use Rattle.np_explain.specs.Types.{Decider, Part, PortSpot}

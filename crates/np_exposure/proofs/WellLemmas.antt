@@ -1,5 +1,5 @@
 -- The requirements of rows are as the policies have them that are read. For `requirements_of_read_policies_are_well` and crates above.
-use Rattle.std.proofs.Common.{◌≡◌, ℕ, ◌+◌, List, [], ◌∷◌, ◌++◌, length, map, fold, flat_map, Bool, true, false, not, ◌&&◌, ◌==◌, Option, Some, None, is_some, unwrap_or, refl, sym, ap, ◌∙◌, if◌then◌else◌}
+use Rattle.std.proofs.Common.{◌≡◌, ℕ, ◌+◌, List, [], ◌∷◌, ◌++◌, length, map, fold, flat_map, Bool, true, false, not, ◌&&◌, ◌==◌, Option, Some, None, is_some, unwrap_or, refl, ap, ◌∙◌, if◌then◌else◌}
 use Rattle.std.specs.List.{enumerate_from, list_all, list_any}
 use Rattle.std.specs.Option.{option_map_or}
 use Rattle.std.proofs.lemmas.Bool.{and_parts, and_from}

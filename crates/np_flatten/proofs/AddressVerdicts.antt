@@ -13,7 +13,7 @@ use Rattle.np_addr.specs.declared.address.Family.TheVariants as family
 use Rattle.np_addr.specs.declared.cidr.Cidr.{Cidr}
 use Rattle.np_conns.specs.Prelude.{Conns, has_spot, is_spot}
 use Rattle.np_rules.specs.Prelude.{Contact, ModelEnd, PodEnd, address, net_entry_matches, net_peer_matches, net_rule_matches, none_or_any, pod}
-use Rattle.np_flatten.proofs.OnePolicy.{any-map}
+use Rattle.np_rules.proofs.StrangerLemmas.{any-map}
 use Rattle.np_flatten.proofs.PortLemmas.{is_none-map, none_or_any-some, ports-match}
 use Rattle.np_table.proofs.RangeWalks.{walk-right}
 use Rattle.np_conns.proofs.ConnLemmas.{conns_of-has}

@@ -5,7 +5,7 @@ use Rattle.std.specs.Bool.{Decides, MatchBool}
 use Rattle.std.specs.Cmp.Lexicographic.{pointwise}
 use Rattle.std.specs.List.{list_any}
 use Rattle.std.proofs.lemmas.Bool.{and_parts, false_from_ne_true, ne_eqb, not-false, or_parts, true≢false}
-use Rattle.std.proofs.lemmas.Bool.Decides.{Decides-and, Decides-eqb}
+use Rattle.std.proofs.lemmas.Bool.Decides.{Decides-and}
 use Rattle.std.proofs.lemmas.List.Folds.{list_any-append}
 use Rattle.std.proofs.lemmas.Slice.Eq.{slice_eq-Decides}
 use Rattle.np_flatten.specs.Prelude.{AddressRow, AddressSpan, Agree, Egress, EstateLists, Ingress, PortSpot, Range, are_same_address_row, are_same_span, differ, differ_at, differ_towards, is_defined, own_sets, set_of, two_differ}
@@ -13,9 +13,8 @@ use Rattle.np_classes.proofs.Lists.{any_place, place_that_passes, places_more}
 use Rattle.np_classes.specs.Classes.{places}
 use Rattle.np_conns.specs.Prelude.{Conns, are_same_conns, has_spot}
 use Rattle.np_rules.specs.Prelude.{IsAmong}
-use Rattle.np_conns.proofs.ConnLemmas.{are_same_conns-Decides}
+use Rattle.np_conns.proofs.ConnLemmas.{are_same_conns-Decides, are_same_range-Decides}
 use Rattle.np_table.specs.Prelude.{address_rows, estate_table}
-use Rattle.np_base.specs.Ranges.{are_same_range}
 use Rattle.np_kinds.specs.Prelude.{number_of_workloads}
 use Rattle.np_table.specs.declared.rows.AddressSpan.TheVariants as span
 use Rattle.np_base.proofs.Bools.{not_itself}
@@ -91,16 +90,9 @@ all_one sets v each =
 
 -- ---- rows
 
-range_decides : (a b : Range ℕ) → Decides (are_same_range a b) (a ≡ b)
-range_decides a b =
-    let ends = Decides-and (a.lo == b.lo) (a.hi == b.hi) (Decides-eqb a.lo b.lo) (Decides-eqb a.hi b.hi) in (
-      λ same. let both = ends.0 same in ap (λ (n : ℕ). record { lo = n; hi = a.hi }) both.0 ∙ ap (λ (n : ℕ). record { lo = b.lo; hi = n }) both.1,
-      λ same. ends.1 (ap (λ (range : Range ℕ). range.lo) same, ap (λ (range : Range ℕ). range.hi) same),
-    )
-
 span_decides : (a b : AddressSpan) → Decides (are_same_span a b) (a ≡ b)
-span_decides (span.Four a) (span.Four b) = (λ is. ap (λ (r : Range ℕ). span.Four r) ((range_decides a b).0 is), λ same. (range_decides a b).1 (cc))
-span_decides (span.Six a) (span.Six b) = (λ is. ap (λ (r : Range ℕ). span.Six r) ((range_decides a b).0 is), λ same. (range_decides a b).1 (cc))
+span_decides (span.Four a) (span.Four b) = (λ is. ap (λ (r : Range ℕ). span.Four r) ((are_same_range-Decides a b).0 is), λ same. (are_same_range-Decides a b).1 (cc))
+span_decides (span.Six a) (span.Six b) = (λ is. ap (λ (r : Range ℕ). span.Six r) ((are_same_range-Decides a b).0 is), λ same. (are_same_range-Decides a b).1 (cc))
 span_decides (span.Four a) (span.Six b) = (λ is. let never : false ≡ true = is in absurd (cc), λ same. absurd (cc))
 span_decides (span.Six a) (span.Four b) = (λ is. let never : false ≡ true = is in absurd (cc), λ same. absurd (cc))
 

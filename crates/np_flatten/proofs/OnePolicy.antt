@@ -1,5 +1,4 @@
--- What the side of a pod allows that one policy of a list selects, without other policies.
--- For AddressVerdicts, FlatVerdicts and crates above.
+-- What the side of a pod allows that one policy of a list selects, without other policies. For FlatVerdicts and crates above.
 use Rattle.std.proofs.Common.{◌≡◌, ◌≢◌, ℕ, ◌+◌, ◌<◌, List, [], ◌∷◌, Bool, true, false, ◌||◌, Option, Some, None, map, flat_map, if◌then◌else◌, refl, sym, ap, ◌∙◌, inl, inr}
 use Rattle.std.specs.Prelude.{is_some, unwrap_or}
 use Rattle.std.specs.List.{enumerate_from, list_any}
@@ -8,14 +7,11 @@ use Rattle.std.proofs.lemmas.List.Folds.{list_any-append}
 use Rattle.np_classes.proofs.Lists.{any_place, place_that_passes}
 use Rattle.np_classes.specs.Classes.{places}
 use Rattle.np_flatten.specs.Prelude.{Direction, EstateLists, NetPolicy, NetRule}
+use Rattle.np_rules.proofs.StrangerLemmas.{any-map}
 use Rattle.np_rules.specs.Prelude.{Contact, PodEnd, is_isolated, isolates, net_places_of, net_rule_matches, net_rules_of, net_selects, permits, placed_net_matches, side_allows}
 use Rattle.np_base.proofs.Lists.{list_any-agrees}
 
 -- ---- tests of some item
-
-pub any-map : {X Y : Type 0} (p : Y → Bool) (f : X → Y) (xs : List X) → list_any p (map f xs) ≡ list_any (λ x. p (f x)) xs
-any-map p f [] = refl
-any-map p f (x ∷ xs) = ap (λ (b : Bool). p (f x) || b) (any-map p f xs)
 
 pub any-flat_map : {X Y : Type 0} (p : Y → Bool) (f : X → List Y) (xs : List X) → list_any p (flat_map f xs) ≡ list_any (λ x. list_any p (f x)) xs
 any-flat_map p f [] = refl
@@ -45,7 +41,7 @@ any-numbered contact policy from [] = refl
 any-numbered contact policy from (rule ∷ rules) = ap (λ (b : Bool). net_rule_matches policy.namespace rule contact || b) (any-numbered contact policy (from + 1) rules)
 
 -- whether some rule of a direction of a policy matches, where it selects the pod
-abbrev policy_permits : Direction → PodEnd → Contact → NetPolicy → Bool
+abbrev pub policy_permits : Direction → PodEnd → Contact → NetPolicy → Bool
 policy_permits direction p contact policy = if net_selects policy p then list_any (λ rule. net_rule_matches policy.namespace rule contact) (unwrap_or (net_rules_of direction policy) []) else false
 
 any-selected : (direction : Direction) (p : PodEnd) (contact : Contact) (policy : NetPolicy) →
@@ -58,7 +54,7 @@ any-selected direction p contact policy = by (net_selects policy p)
     by true = any-numbered contact policy 0 (unwrap_or (net_rules_of direction policy) [])
     by false = refl
 
-permits-any : (policies : List NetPolicy) (direction : Direction) (p : PodEnd) (contact : Contact) → permits policies direction p contact ≡ list_any (policy_permits direction p contact) policies
+pub permits-any : (policies : List NetPolicy) (direction : Direction) (p : PodEnd) (contact : Contact) → permits policies direction p contact ≡ list_any (policy_permits direction p contact) policies
 permits-any policies direction p contact =
     any-flat_map (placed_net_matches contact) (λ policy. if net_selects policy p then net_places_of direction policy else []) policies
     ∙ list_any-agrees (λ policy. list_any (placed_net_matches contact) (if net_selects policy p then net_places_of direction policy else [])) (policy_permits direction p contact)

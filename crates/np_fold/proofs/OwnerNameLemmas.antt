@@ -1,4 +1,4 @@
--- Names of top owners. For `owner_names_tell_owners_apart`.
+-- Names of top owners. For `owner_names_tell_owners_apart` and crates above.
 use Rattle.std.proofs.Common.{◌≡◌, ◌↔◌, ℕ, ◌==◌, List, [], ◌∷◌, ◌++◌, true, false, refl, sym, subst, ◌∙◌, append_assoc, eq-eqb}
 use Rattle.std.specs.Prelude.{codes}
 use Rattle.std.specs.List.{list_all, list_any}
@@ -9,7 +9,7 @@ use Rattle.np_fold.specs.Prelude.{Pod, owner_name}
 
 -- ---- texts without a byte
 
-abbrev Lacks : ℕ → List ℕ → Type 0
+abbrev pub Lacks : ℕ → List ℕ → Type 0
 Lacks byte text = list_any (λ other. other == byte) text ≡ false
 
 -- a byte does not come first where it is missing
@@ -18,7 +18,7 @@ not-first byte other others lacks same =
     true≢false (sym (eq-eqb other byte (sym same)) ∙ (or_parts (other == byte) (list_any (λ next. next == byte) others) lacks).0)
 
 -- texts that are cut at the first of a byte are equal part by part
-cut : (byte : ℕ) (front front' rest rest' : List ℕ) → Lacks byte front → Lacks byte front' → front ++ byte ∷ rest ≡ front' ++ byte ∷ rest' → (front ≡ front') × (rest ≡ rest')
+pub cut : (byte : ℕ) (front front' rest rest' : List ℕ) → Lacks byte front → Lacks byte front' → front ++ byte ∷ rest ≡ front' ++ byte ∷ rest' → (front ≡ front') × (rest ≡ rest')
 cut byte [] [] rest rest' lacks lacks' same = (refl, cc)
 cut byte [] (y ∷ ys) rest rest' lacks lacks' same = absurd (not-first byte y ys lacks' cc)
 cut byte (x ∷ xs) [] rest rest' lacks lacks' same = absurd (not-first byte x xs lacks cc)
@@ -41,7 +41,7 @@ word-lacks (x ∷ xs) word =
     (false_from_ne_true (x == 91) (λ is. true≢false (sym (subst (λ (n : ℕ). is_word_byte n ≡ true) (eqb-true x 91 is) parts.0))))
     (word-lacks xs parts.1)
 
-name-lacks_slash : (text : List ℕ) → is_name text ≡ true → Lacks 47 text
+pub name-lacks_slash : (text : List ℕ) → is_name text ≡ true → Lacks 47 text
 name-lacks_slash text name = not-true _ (and_parts _ _ name).1
 
 name-lacks_bracket : (text : List ℕ) → is_name text ≡ true → Lacks 91 text

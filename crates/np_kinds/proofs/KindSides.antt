@@ -1,6 +1,7 @@
 -- Pods and contacts that the side of a pod does not tell apart. For KindVerdicts.
-use Rattle.std.proofs.Common.{◌≡◌, List, [], ◌∷◌, ◌++◌, ◌&&◌, map, Option, Some, None, unwrap_or, refl, ap, ◌∙◌, if◌then◌else◌}
-use Rattle.std.specs.List.{AllByRecursion, enumerate_from, flat_map}
+use Rattle.std.proofs.Common.{◌≡◌, List, [], ◌∷◌, ◌&&◌, map, Option, Some, None, unwrap_or, ap, ◌∙◌, if◌then◌else◌}
+use Rattle.std.specs.Prelude.{IfSome}
+use Rattle.std.specs.List.{AllByRecursion, flat_map}
 use Rattle.std.specs.Option.{option_map_or}
 use Rattle.std.specs.Str.{bytes_eq}
 use Rattle.np_base.proofs.Each.{All-weaker, All-parts, All-append, All-if}
@@ -15,59 +16,47 @@ use Rattle.np_model.specs.declared.admin_policy.BasePolicy.{BasePolicy}
 use Rattle.np_model.specs.declared.admin_policy.Subject.{Subject}
 use Rattle.np_kinds.specs.Prelude.{Direction, Egress, Ingress, NetRule}
 use Rattle.np_model.specs.declared.network_policy.NetPolicy.{NetPolicy}
-use Rattle.np_rules.specs.Prelude.{Contact, PlacedNetRule, PodEnd, admin_places, admin_places_of, base_places, base_rules_of, net_places, net_places_of, net_rules_of, net_selects, placed_net_matches, subject_selects}
+use Rattle.np_rules.specs.Prelude.{Contact, PlacedNetRule, PodEnd, net_places, net_places_of, net_rules_of, net_selects, placed_net_matches, subject_selects}
 
 -- ---- which policies select
 
-subject-same : (p q : PodEnd) → SamePod p q → (subject : Subject) → AllByRecursion (AgreeOn p.labels q.labels) (keys_of_subject subject) → subject_selects subject p ≡ subject_selects subject q
-subject-same p q same subject agree =
-    let parts = All-parts (AgreeOn p.labels q.labels) (keys_of_selector subject.namespaces) (keys_of_selector subject.pods) agree in
-    ap (λ labels. meets_selector subject.namespaces labels && meets_selector subject.pods p.labels) same.namespace_labels
-    ∙ ap (λ b. meets_selector subject.namespaces q.namespace_labels && b) (selector-agree p.labels q.labels subject.pods parts.1)
+module _ (p q : PodEnd) (pods : SamePod p q) where
+  subject-same : (subject : Subject) → AllByRecursion (AgreeOn p.labels q.labels) (keys_of_subject subject) → subject_selects subject p ≡ subject_selects subject q
+  subject-same subject agree =
+      let parts = All-parts (AgreeOn p.labels q.labels) (keys_of_selector subject.namespaces) (keys_of_selector subject.pods) agree in
+      ap (λ labels. meets_selector subject.namespaces labels && meets_selector subject.pods p.labels) pods.namespace_labels
+      ∙ ap (λ b. meets_selector subject.namespaces q.namespace_labels && b) (selector-agree p.labels q.labels subject.pods parts.1)
 
-net-same : (p q : PodEnd) → SamePod p q → (policy : NetPolicy) → AllByRecursion (AgreeOn p.labels q.labels) (keys_of_net_policy policy) → net_selects policy p ≡ net_selects policy q
-net-same p q same policy agree =
-    let parts = All-three (AgreeOn p.labels q.labels) (keys_of_selector policy.subject) (keys_of_net_direction policy.ingress) (keys_of_net_direction policy.egress) agree in
-    ap (λ namespace. bytes_eq policy.namespace namespace && meets_selector policy.subject p.labels) same.namespace
-    ∙ ap (λ b. bytes_eq policy.namespace q.namespace && b) (selector-agree p.labels q.labels policy.subject parts.0)
+  net-same : (policy : NetPolicy) → AllByRecursion (AgreeOn p.labels q.labels) (keys_of_net_policy policy) → net_selects policy p ≡ net_selects policy q
+  net-same policy agree =
+      let parts = All-three (AgreeOn p.labels q.labels) (keys_of_selector policy.subject) (keys_of_net_direction policy.ingress) (keys_of_net_direction policy.egress) agree in
+      ap (λ namespace. bytes_eq policy.namespace namespace && meets_selector policy.subject p.labels) pods.namespace
+      ∙ ap (λ b. bytes_eq policy.namespace q.namespace && b) (selector-agree p.labels q.labels policy.subject parts.0)
 
-module _ (p q : PodEnd) (one other : Contact) (pods : SamePod p q) (same : SameContact one other) where
-  -- ---- admin policies and the baseline
-
-  pub admin_places-same : (direction : Direction) (policies : List AdminPolicy) →
+  pub admins-alike : (policies : List AdminPolicy) →
       AllByRecursion (λ subject. AllByRecursion (AgreeOn p.labels q.labels) (keys_of_subject subject)) (map (λ policy. policy.subject) policies) →
-      admin_places policies direction p ≡ admin_places policies direction q
-  admin_places-same direction [] agree = refl
-  admin_places-same direction (policy ∷ policies) agree =
-      ap (λ b. (if b then admin_places_of direction policy else []) ++ admin_places policies direction p) (subject-same p q pods policy.subject agree.0)
-      ∙ ap (λ rest. (if subject_selects policy.subject q then admin_places_of direction policy else []) ++ rest) (admin_places-same direction policies agree.1)
+      AllByRecursion (λ policy. subject_selects policy.subject p ≡ subject_selects policy.subject q) policies
+  admins-alike [] agree = tt
+  admins-alike (policy ∷ policies) agree = (subject-same policy.subject agree.0, admins-alike policies agree.1)
 
-  pub base_places-same : (direction : Direction) (baseline : Option BasePolicy) →
+  pub nets-alike : (policies : List NetPolicy) → AllByRecursion (AgreeOn p.labels q.labels) (flat_map keys_of_net_policy policies) →
+      AllByRecursion (λ policy. net_selects policy p ≡ net_selects policy q) policies
+  nets-alike policies agree =
+      All-weaker (λ policy. AllByRecursion (AgreeOn p.labels q.labels) (keys_of_net_policy policy)) (λ policy. net_selects policy p ≡ net_selects policy q) net-same policies
+      (All-flat (AgreeOn p.labels q.labels) keys_of_net_policy policies agree)
+
+  pub base-alike : (baseline : Option BasePolicy) →
       AllByRecursion (λ subject. AllByRecursion (AgreeOn p.labels q.labels) (keys_of_subject subject)) (option_map_or (λ base. base.subject ∷ []) baseline []) →
-      base_places baseline direction p ≡ base_places baseline direction q
-  base_places-same direction None agree = refl
-  base_places-same direction (Some policy) agree =
-      ap (λ b. if b then map (λ numbered. record { place = numbered.0; rule = numbered.1 }) (enumerate_from 0 (base_rules_of direction policy)) else [])
-      (subject-same p q pods policy.subject agree.0)
+      IfSome baseline (λ policy. subject_selects policy.subject p ≡ subject_selects policy.subject q)
+  base-alike None agree = tt
+  base-alike (Some policy) agree = subject-same policy.subject agree.0
 
-  -- ---- NetworkPolicies
+-- ---- rules of NetworkPolicies
 
+module _ (q : PodEnd) (one other : Contact) (same : SameContact one other) where
   -- the rule, as one of its policy's namespace, matches both contacts, or neither
   abbrev IsPlacedAlike : PlacedNetRule → Type 0
   IsPlacedAlike placed = placed_net_matches one placed ≡ placed_net_matches other placed
-
-  pub net_selects-same : (policies : List NetPolicy) → AllByRecursion (AgreeOn p.labels q.labels) (flat_map keys_of_net_policy policies) →
-      AllByRecursion (λ policy. net_selects policy p ≡ net_selects policy q) policies
-  net_selects-same policies agree =
-      All-weaker (λ policy. AllByRecursion (AgreeOn p.labels q.labels) (keys_of_net_policy policy)) (λ policy. net_selects policy p ≡ net_selects policy q) (net-same p q pods) policies
-      (All-flat (AgreeOn p.labels q.labels) keys_of_net_policy policies agree)
-
-  pub net_places-same : (direction : Direction) (policies : List NetPolicy) → AllByRecursion (λ policy. net_selects policy p ≡ net_selects policy q) policies →
-      net_places policies direction p ≡ net_places policies direction q
-  net_places-same direction [] selects = refl
-  net_places-same direction (policy ∷ policies) selects =
-      ap (λ b. (if b then net_places_of direction policy else []) ++ net_places policies direction p) selects.0
-      ∙ ap (λ rest. (if net_selects policy q then net_places_of direction policy else []) ++ rest) (net_places-same direction policies selects.1)
 
   net_rules : (direction : Direction) (policy : NetPolicy) → AllByRecursion (AgreeAt one.far other.far) (keys_of_net_policy policy) →
       AllByRecursion (λ rule. AllByRecursion (AgreeAt one.far other.far) (keys_of_net_rule rule)) (unwrap_or (net_rules_of direction policy) [])

@@ -1,15 +1,19 @@
 -- The pods of workloads. For `first_place`, `first_pod` and crates above.
-use Rattle.std.proofs.Common.{◌≡◌, ◌≢◌, ◌<◌, ◌==◌, ◌&&◌, ℕ, List, [], ◌∷◌, Bool, true, false, Option, Some, None, Contains, length, slice_index_or, slice_get, get_or, if◌then◌else◌, arith, refl, sym, subst, ◌∙◌, ap, eq-eqb, inl, inr}
+use Rattle.std.proofs.Common.{◌≡◌, ◌≢◌, ◌<◌, ◌==◌, ◌&&◌, ℕ, List, [], ◌∷◌, Bool, true, false, Option, Some, None, Contains, length, slice_index_or, slice_get, get_or, Less, Equal, if◌then◌else◌, arith, refl, sym, subst, ◌∙◌, ap, eq-eqb, inl, inr}
+use Rattle.std.specs.Cmp.{tied_itself}
 use Rattle.std.specs.Option.{option_map_or}
+use Rattle.std.specs.Ordering.{nat_cmp}
 use Rattle.std.specs.Prelude.{IsSomeAnd}
-use Rattle.std.proofs.lemmas.Bool.{and_parts, eqb-true, false_from_ne_true}
+use Rattle.std.proofs.lemmas.Bool.{and_parts, eqb-true, false_from_ne_true, false≢true}
+use Rattle.std.proofs.lemmas.Cmp.{nat_cmp_total}
+use Rattle.std.proofs.lemmas.Map.Keys.{Less-from_sorted}
 use Rattle.std.proofs.lemmas.Bool.Decides.{eqb_tells}
 use Rattle.std.proofs.lemmas.List.Elements.{All-contains, Contains-get_or}
 use Rattle.std.proofs.lemmas.List.Folds.{Any-from_list_any, list_any_at}
 use Rattle.std.proofs.lemmas.Option.{slice_get-get_or}
-use Rattle.np_kinds.specs.Prelude.{EstateLists, Pod, destination_pod, is_alone, source_pod}
+use Rattle.np_kinds.specs.Prelude.{EstateLists, IsWorkload, Pod, destination_pod, is_alone, source_pod}
 use Rattle.np_fold.specs.Prelude.{Folding, Workload, folding_of, has_pod, members_of, workload_number, workloads_of}
-use Rattle.np_fold.proofs.WorkloadLemmas.{first-is, member-by_number, number-in_workloads, pods-within}
+use Rattle.np_fold.proofs.WorkloadLemmas.{first-is, member-by_number, number-in_workloads, pods-ascend, pods-within}
 use Rattle.np_rules.specs.Prelude.{no_pod, pod_end}
 
 -- ---- workloads have pods
@@ -122,6 +126,45 @@ not-alone folding a b p q has has' differ =
     let parts = and_parts (a == b) (length (members_of folding a) == 1) yes in
     let in_a : Contains (members_of folding a) q = subst (λ (n : ℕ). Contains (members_of folding n) q) (sym (eqb-true a b parts.0)) has' in
     two_in_one (members_of folding a) p q has in_a differ (eqb-true (length (members_of folding a)) 1 parts.1))
+
+two : (count : ℕ) → 0 < count → (count == 1) ≡ false → 1 < count
+two count some other = grind arith
+
+-- those that stand for two workloads are two
+pub pods-apart : (lists : EstateLists) (a b : ℕ) → IsWorkload lists a → IsWorkload lists b → is_alone (folding_of lists) a b ≡ false
+    → source_pod (folding_of lists) a ≢ destination_pod (folding_of lists) a b
+pods-apart lists a b a_in b_in alone same = by (a == b) refl
+  where
+    folding : Folding
+    folding = folding_of lists
+
+    a_has : Contains (members_of (folding_of lists) a) (source_pod (folding_of lists) a)
+    a_has = source-member (folding_of lists) a (members-some lists (folding_of lists) a refl a_in)
+
+    b_has : Contains (members_of (folding_of lists) b) (destination_pod (folding_of lists) a b)
+    b_has = destination-member (folding_of lists) a b (members-some lists (folding_of lists) b refl b_in) alone
+
+    number : (w p : ℕ) → IsWorkload lists w → Contains (members_of (folding_of lists) w) p → workload_number lists p ≡ w
+    number w p w_in has = member-number lists w p (members-within lists (folding_of lists) w p refl w_in has) has
+
+    one : a ≡ b
+    one = sym (number a (source_pod (folding_of lists) a) a_in a_has) ∙ ap (workload_number lists) same ∙ number b (destination_pod (folding_of lists) a b) b_in b_has
+
+    by : (equal : Bool) → (a == b) ≡ equal → ⊥
+    by false is = false≢true (sym is ∙ eq-eqb a b one)
+    by true is =
+        let pods = members_of (folding_of lists) b in
+        let near : source_pod (folding_of lists) a ≡ get_or pods 0 0 = ap (λ (number : ℕ). get_or (members_of (folding_of lists) number) 0 0) one in
+        let far : destination_pod (folding_of lists) a b ≡ get_or pods 1 0 = rw is refl in
+        let lone : (length (members_of (folding_of lists) a) == 1) ≡ false = rw is at alone in
+        let more : 1 < length pods = two (length pods) (members-some lists (folding_of lists) b refl b_in) (ap (λ (number : ℕ). length (members_of (folding_of lists) number) == 1) (sym one) ∙ lone) in
+        let less : nat_cmp (get_or pods 0 0) (get_or pods 1 0) ≡ Less = Less-from_sorted nat_cmp pods 0 1 0 (pods-ascend lists b) (omega arith) more in
+        let equal : get_or pods 0 0 ≡ get_or pods 1 0 = sym near ∙ same ∙ far in
+        let tie : nat_cmp (get_or pods 0 0) (get_or pods 1 0) ≡ Equal = ap (nat_cmp (get_or pods 0 0)) (sym equal) ∙ tied_itself nat_cmp_total (get_or pods 0 0) in
+        apart (sym less ∙ tie)
+      where
+        apart : Less ≡ Equal → ⊥
+        apart is = cc
 
 -- the pod at a place, as rules see it
 pub pod-first : (pods all : List Pod) (place first : ℕ) (a : Pod) → pods ≡ all → place ≡ first → place < length pods → a ≡ get_or pods place a

@@ -1,5 +1,5 @@
 -- What passes between workloads is what passes between their pods. For KindNumbers, ReachLemmas and 2 more.
-use Rattle.std.proofs.Common.{◌≡◌, ◌≢◌, ◌<◌, ℕ, List, [], ◌∷◌, Bool, true, false, Option, Some, None, Contains, length, slice_get, slice_index, if◌then◌else◌, refl, sym, ap, subst, ◌∙◌, inl, inr}
+use Rattle.std.proofs.Common.{◌≡◌, ◌≢◌, ◌<◌, ℕ, List, [], ◌∷◌, Bool, true, false, Option, Some, None, Contains, length, slice_get, slice_index, if◌then◌else◌, refl, sym, ap, ◌∙◌, inl, inr}
 use Rattle.std.specs.Option.{option_map_or}
 use Rattle.std.specs.Prelude.{IsSomeAnd}
 use Rattle.np_base.proofs.Lists.{slice_get-some}
@@ -112,7 +112,7 @@ pair_allows-alone lists folding source destination family spot alone = rw alone 
 -- ---- numbers of workloads
 
 -- the number of a pod's workload is one of the folding
-number-within : (lists : EstateLists) (place : ℕ) → place < length lists.pods → workload_number lists place < length (folding_of lists).workloads
+pub number-within : (lists : EstateLists) (place : ℕ) → place < length lists.pods → workload_number lists place < length (folding_of lists).workloads
 unfolding folding_of
 number-within lists place within = number-in_workloads lists place within
 

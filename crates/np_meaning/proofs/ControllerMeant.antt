@@ -4,9 +4,9 @@ use Rattle.std.proofs.lemmas.Bool.{ne_eqb}
 use Rattle.std.specs.Prelude.{IfOk, codes}
 use Rattle.serde_json.specs.Data.{Data, object, no_members}
 use Rattle.np_json.specs.Prelude.{Read, as_whole, listed, member_of, must_be_object, namespaced_name, optional, required, whole}
-use Rattle.np_meaning.specs.Prelude.{AreLabelsOf, ControllerItem, ControllerKind, CronJob, DaemonSet, Deployment, IsControllerOf, IsTemplateIn, IsTemplateOf, Job, Pair, ReplicaSet, ReplicationController, StatefulSet, Template, has_replicas, is_nought, metadata_of, number_at, object_at, spec_of, template_in}
+use Rattle.np_meaning.specs.Prelude.{AreLabelsOf, ControllerItem, ControllerKind, CronJob, DaemonSet, Deployment, IsControllerOf, IsReadOf, IsTemplateIn, IsTemplateOf, Job, Pair, ReplicaSet, ReplicationController, StatefulSet, Template, has_replicas, is_nought, metadata_of, number_at, object_at, spec_of, template_in}
 use Rattle.np_meaning.proofs.MetaMeant.{IsOwn, labels-meant, namespaced_name-meant}
-use Rattle.np_meaning.proofs.Outputs.{OutputOf, IsOptional, optional-output}
+use Rattle.np_meaning.proofs.Outputs.{OutputOf, optional-output}
 use Rattle.np_meaning.proofs.PodMeant.{pod_spec-meant}
 use Rattle.np_objects.specs.Prelude.{controller, controller_metadata, controller_spec, cron_job_spec, is_zero, job_template, label_map, no_spec, owner_reference, pod_spec, replicated_spec, template, template_metadata, template_spec}
 use Rattle.np_policies.proofs.ReadLemmas.{bind-output, then-output}
@@ -31,7 +31,7 @@ template_metadata-meant value labels is =
 template_labels-meant : (value : Data) (found : Option (List Pair)) → optional (codes "metadata") template_metadata value ≡ Ok found → AreLabelsOf (metadata_of value) (unwrap_or found [])
 template_labels-meant value found is = by (member_of (codes "metadata") value) found (optional-output template_metadata (codes "metadata") value found is)
   where
-    by : (member : Option Data) (found : Option (List Pair)) → IsOptional template_metadata member found → AreLabelsOf (unwrap_or member (object no_members)) (unwrap_or found [])
+    by : (member : Option Data) (found : Option (List Pair)) → IsReadOf template_metadata member found → AreLabelsOf (unwrap_or member (object no_members)) (unwrap_or found [])
     by None None is = λ key. refl
     by None (Some read) is = absurd is
     by (Some one) None is = absurd is
@@ -49,7 +49,7 @@ template-meant value read is =
 template_in-meant : (value : Data) (found : Option Template) → optional (codes "template") template value ≡ Ok found → IsTemplateIn (member_of (codes "template") value) found
 template_in-meant value found is = by (member_of (codes "template") value) found (optional-output template (codes "template") value found is)
   where
-    by : (member : Option Data) (found : Option Template) → IsOptional template member found → IsTemplateIn member found
+    by : (member : Option Data) (found : Option Template) → IsReadOf template member found → IsTemplateIn member found
     by None None is = tt
     by None (Some read) is = absurd is
     by (Some one) None is = absurd is
@@ -74,7 +74,7 @@ zero-nought (Some (negsuc n)) = refl
 replicas-meant : (value : Data) (found : Option ℤ) → optional (codes "replicas") whole value ≡ Ok found → is_zero found ≡ is_nought (number_at (codes "replicas") value)
 replicas-meant value found is = by (member_of (codes "replicas") value) found (optional-output whole (codes "replicas") value found is)
   where
-    by : (member : Option Data) (found : Option ℤ) → IsOptional whole member found → is_zero found ≡ is_nought (as_whole (unwrap_or member (object no_members)))
+    by : (member : Option Data) (found : Option ℤ) → IsReadOf whole member found → is_zero found ≡ is_nought (as_whole (unwrap_or member (object no_members)))
     by None None is = refl
     by None (Some read) is = absurd is
     by (Some one) None is = absurd is
@@ -99,7 +99,7 @@ template_spec-meant value spec is =
 -- what a spec that may be missing says
 or_none : (shape : Data → Read Spec) (none : Data → Bool) (at : Data → Option Data) → none (object no_members) ≡ false → at (object no_members) ≡ None
     → ((value : Data) (spec : Spec) → shape value ≡ Ok spec → Says (none value) (at value) spec)
-    → (member : Option Data) (found : Option Spec) → IsOptional shape member found → Says (none (unwrap_or member (object no_members))) (at (unwrap_or member (object no_members)))
+    → (member : Option Data) (found : Option Spec) → IsReadOf shape member found → Says (none (unwrap_or member (object no_members))) (at (unwrap_or member (object no_members)))
     (unwrap_or found no_spec)
 or_none shape none at is_false is_none meant None None is = record { none_wanted = sym is_false; template = subst (λ (member : Option Data). IsTemplateIn member None) (sym is_none) tt }
 or_none shape none at is_false is_none meant None (Some spec) is = absurd is

@@ -4,9 +4,9 @@ use Rattle.std.specs.Prelude.{option_to_list}
 use Rattle.std.specs.List.{flat_map}
 use Rattle.serde_json.specs.Data.{Data, object, no_members}
 use Rattle.np_json.specs.Prelude.{has_one_of, listed, member_of, must_be_object, namespaced_name, optional, port, refuse_if, required, text, text_of, whole_of}
-use Rattle.np_meaning.specs.Prelude.{Backend, BadField, IngressItem, IsBackend, IsBackendPort, IsIngressOf, Named, Number, PortName, Resource, Service, backends_in, list_at, object_at, text_at}
+use Rattle.np_meaning.specs.Prelude.{Backend, BadField, IngressItem, IsBackend, IsBackendPort, IsIngressOf, IsReadOf, Named, Number, PortName, Resource, Service, backends_in, list_at, object_at, text_at}
 use Rattle.np_meaning.proofs.MetaMeant.{namespaced_name-meant}
-use Rattle.np_meaning.proofs.Outputs.{optional-output, each-output, number_at-required, IsOptional, text-output}
+use Rattle.np_meaning.proofs.Outputs.{optional-output, each-output, number_at-required, text-output}
 use Rattle.np_meaning.proofs.MemberReads.{text_at-output, object_at-output}
 use Rattle.np_policies.proofs.ReadLemmas.{bind-output, then-output}
 use Rattle.np_meaning.proofs.PodMeant.{AreEach-append, AreEach-flat_map}
@@ -64,7 +64,7 @@ backend-meant value read is =
     of_service one (Service name port) there said = rw there said
     of_service one Resource there said = absurd said
 
-    by : (member : Option Data) → member_of (codes "service") value ≡ member → (found : Option Backend) → IsOptional backend_service member found → IsBackend value (unwrap_or found Resource)
+    by : (member : Option Data) → member_of (codes "service") value ≡ member → (found : Option Backend) → IsReadOf backend_service member found → IsBackend value (unwrap_or found Resource)
     by None none None said = none
     by None none (Some read) said = absurd said
     by (Some one) there None said = absurd said
@@ -103,7 +103,7 @@ rule-meant value reads is =
     let made : unwrap_or found.first [] ≡ reads = let after = found.after in cc in
     subst (AreEach IsBackend (paths_of (object_at (codes "http") value))) made (by (member_of (codes "http") value) found.first (optional-output http (codes "http") value found.first found.here))
   where
-    by : (member : Option Data) (found : Option (List Backend)) → IsOptional http member found → AreEach IsBackend (paths_of (unwrap_or member (object no_members))) (unwrap_or found [])
+    by : (member : Option Data) (found : Option (List Backend)) → IsReadOf http member found → AreEach IsBackend (paths_of (unwrap_or member (object no_members))) (unwrap_or found [])
     by None None said = tt
     by None (Some reads) said = absurd said
     by (Some one) None said = absurd said
@@ -125,7 +125,7 @@ ingress_spec-meant value reads is =
     (AreEach-flat_map IsBackend (λ d. paths_of (object_at (codes "http") d)) (list_at (codes "rules") value) rules.first
     (each-output rule (λ d reads. AreEach IsBackend (paths_of (object_at (codes "http") d)) reads) rule-meant (codes "rules") value rules.first rules.here)))
   where
-    by : (member : Option Data) (found : Option Backend) → IsOptional backend member found → AreEach IsBackend (option_to_list member) (option_to_list found)
+    by : (member : Option Data) (found : Option Backend) → IsReadOf backend member found → AreEach IsBackend (option_to_list member) (option_to_list found)
     by None None said = tt
     by None (Some read) said = absurd said
     by (Some one) None said = absurd said
@@ -143,7 +143,7 @@ ingress-meant value read is =
       backends = by (member_of (codes "spec") value) spec.first (optional-output ingress_spec (codes "spec") value spec.first spec.here);
     })
   where
-    by : (member : Option Data) (found : Option (List Backend)) → IsOptional ingress_spec member found → AreEach IsBackend (backends_in (unwrap_or member (object no_members))) (unwrap_or found [])
+    by : (member : Option Data) (found : Option (List Backend)) → IsReadOf ingress_spec member found → AreEach IsBackend (backends_in (unwrap_or member (object no_members))) (unwrap_or found [])
     by None None said = tt
     by None (Some reads) said = absurd said
     by (Some one) None said = absurd said

@@ -9,11 +9,11 @@ use Rattle.serde_json.specs.Find.{as_object, as_str}
 use Rattle.np_json.specs.Prelude.{as_pairs, labels, member_of, must_be_object, name, of_type, optional, pairs_of_members, refuse_if, required, text, ◌>>◌}
 use Rattle.np_json.specs.Meta as meta
 use Rattle.np_model.specs.Prelude.{is_label, is_name}
-use Rattle.np_meaning.specs.Prelude.{AreLabelsOf, BadField, BadName, Pair, last_text, named_or_default, text_at}
+use Rattle.np_meaning.specs.Prelude.{AreLabelsOf, BadField, BadName, IsReadOf, Pair, last_text, named_or_default, text_at}
 use Rattle.np_json.specs.declared.meta.NamespacedName.{NamespacedName}
 use Rattle.np_labels.proofs.PairLists.{value_of-labels_of}
 use Rattle.np_labels.specs.Prelude.{labels_of, pair_of, value_of}
-use Rattle.np_meaning.proofs.Outputs.{optional-output, IsOptional, text-output}
+use Rattle.np_meaning.proofs.Outputs.{optional-output, text-output}
 use Rattle.np_meaning.proofs.MemberReads.{text_at-output, of_type-output, name-output}
 use Rattle.np_policies.proofs.ReadLemmas.{bind-output, then-output}
 use Rattle.np_objects.specs.Prelude.{label_map}
@@ -34,7 +34,7 @@ namespace-output value s is =
     let same : meta.or_default read.first ≡ s = cc in
     rw (text-output value read.first read.here) (named_or_default-is read.first ∙ same)
 
-namespace-meant : (member : Option Data) (found : Option (List ℕ)) → IsOptional meta.namespace member found →
+namespace-meant : (member : Option Data) (found : Option (List ℕ)) → IsReadOf meta.namespace member found →
     named_or_default (unwrap_or (as_str (unwrap_or member (object no_members))) []) ≡ unwrap_or found (codes "default")
 namespace-meant None None is = refl
 namespace-meant None (Some s) is = absurd is
@@ -118,7 +118,7 @@ label_map-meant value read is key =
 pub labels-meant : (value : Data) (found : Option (List Pair)) → optional (codes "labels") label_map value ≡ Ok found → AreLabelsOf value (unwrap_or found [])
 labels-meant value found is = λ key. by key (member_of (codes "labels") value) found (optional-output label_map (codes "labels") value found is)
   where
-    by : (key : List ℕ) (member : Option Data) (found : Option (List Pair)) → IsOptional label_map member found →
+    by : (key : List ℕ) (member : Option Data) (found : Option (List Pair)) → IsReadOf label_map member found →
         value_of (unwrap_or found []) key ≡ last_text (unwrap_or (as_object (unwrap_or member (object no_members))) no_members) key
     by key None None is = refl
     by key None (Some read) is = absurd is

@@ -1,46 +1,28 @@
--- What follows from a shape having read an output. For ControllerMeant, IngressMeant and 4 more.
-use Rattle.std.proofs.Common.{◌≡◌, ℕ, pos, ◌+◌, List, [], ◌∷◌, Bool, false, Option, Some, None, unwrap_or, Ok, Err, refl, ap, subst}
+-- What follows from a shape having read an output. For ControllerMeant, IngressMeant and 5 more.
+use Rattle.std.proofs.Common.{◌≡◌, ℕ, pos, ◌+◌, List, [], ◌∷◌, Bool, false, Option, Some, None, unwrap_or, Ok, refl, sym, subst}
 use Rattle.serde_json.specs.Data.{Data, object, Items, no_items, item, no_members}
 use Rattle.serde_json.specs.Find.{as_array, as_bool, as_str}
 use Rattle.np_items.specs.Prelude.{values}
-use Rattle.np_json.specs.Prelude.{Read, each_item, flag, given, list_by, listed, member_of, name, optional, port, read_member, required, text, under, ◌>>=◌}
+use Rattle.np_json.specs.Prelude.{Read, each_item, flag, list_by, listed, member_of, name, optional, port, read_member, required, text, under, ◌>>=◌}
 use Rattle.np_json.specs.declared.path.Step.TheVariants.{Field, Item}
 use Rattle.np_json.proofs.ReadLemmas.{under-output}
-use Rattle.np_policies.proofs.ReadLemmas.{bind-output}
+use Rattle.np_policies.proofs.ReadLemmas as reading
+use Rattle.np_policies.proofs.ReadLemmas.{IsOptional, bind-output}
 use Rattle.np_meaning.proofs.MemberReads.{of_type-output, object_at-output, port-whole}
 use Rattle.np_meaning.specs.EachPod.{AreEach}
-use Rattle.np_meaning.specs.Prelude.{is_true_at, list_at, number_at, object_at, text_at}
+use Rattle.np_meaning.specs.Prelude.{IsReadOf, is_true_at, list_at, number_at, object_at, text_at}
 
 -- what a definition of a reading gives
 abbrev pub OutputOf : {A : Type 0} → (Data → Read A) → Type 0
 OutputOf {A} read = A
 
--- what `given` gave
-abbrev IsGiven : {A : Type 0} → Read A → Option A → Type 0
-IsGiven read None = ⊥
-IsGiven read (Some output) = read ≡ Ok output
-
-given-output : {A : Type 0} (read : Read A) (output : Option A) → given read ≡ Ok output → IsGiven read output
-given-output (Ok other) None is = cc
-given-output (Ok other) (Some output) is = let same : other ≡ output = cc in ap Ok same
-given-output (Err flaw) output is = cc
-
 -- a member that may be missing is, or was read as its output
-abbrev pub IsOptional : {A : Type 0} → (Data → Read A) → Option Data → Option A → Type 0
-IsOptional shape None None = Unit {0}
-IsOptional shape None (Some output) = ⊥
-IsOptional shape (Some found) None = ⊥
-IsOptional shape (Some found) (Some output) = shape found ≡ Ok output
+pub IsReadOf-optional : {A : Type 0} (shape : Data → Read A) (member : Option Data) (output : Option A) → IsOptional shape member output → IsReadOf shape member output
+IsReadOf-optional shape member None is = subst (λ (found : Option Data). IsReadOf shape found None) (sym is) tt
+IsReadOf-optional shape member (Some output) is = subst (λ (found : Option Data). IsReadOf shape found (Some output)) (sym is.there) is.read
 
-pub optional-output : {A : Type 0} (shape : Data → Read A) (name : List ℕ) (value : Data) (output : Option A) → optional name shape value ≡ Ok output → IsOptional shape (member_of name value) output
-unfolding optional
-optional-output shape name value output is = by (member_of name value) output (under-output (Field name) (read_member (Ok None) (λ found. given (shape found)) (member_of name value)) output is)
-  where
-    by : (member : Option Data) (output : Option _) → read_member (Ok None) (λ found. given (shape found)) member ≡ Ok output → IsOptional shape member output
-    by None None is = tt
-    by None (Some other) is = cc
-    by (Some found) None is = given-output (shape found) None is
-    by (Some found) (Some output) is = given-output (shape found) (Some output) is
+pub optional-output : {A : Type 0} (shape : Data → Read A) (name : List ℕ) (value : Data) (output : Option A) → optional name shape value ≡ Ok output → IsReadOf shape (member_of name value) output
+optional-output shape name value output is = IsReadOf-optional shape (member_of name value) output (reading.optional-output shape name value output is)
 
 -- ---- lists
 
@@ -96,7 +78,7 @@ number_at-required name value n is = port-whole (object_at name value) n (object
 pub text_at-optional : (name : List ℕ) (value : Data) (found : Option (List ℕ)) → optional name text value ≡ Ok found → text_at name value ≡ unwrap_or found []
 text_at-optional name value found is = by (member_of name value) found (optional-output text name value found is)
   where
-    by : (member : Option Data) (found : Option (List ℕ)) → IsOptional text member found → unwrap_or (as_str (unwrap_or member (object no_members))) [] ≡ unwrap_or found []
+    by : (member : Option Data) (found : Option (List ℕ)) → IsReadOf text member found → unwrap_or (as_str (unwrap_or member (object no_members))) [] ≡ unwrap_or found []
     by None None is = refl
     by None (Some s) is = absurd is
     by (Some one) None is = absurd is
@@ -106,7 +88,7 @@ text_at-optional name value found is = by (member_of name value) found (optional
 pub is_true_at-optional : (name : List ℕ) (value : Data) (found : Option Bool) → optional name flag value ≡ Ok found → unwrap_or found false ≡ is_true_at name value
 is_true_at-optional name value found is = by (member_of name value) found (optional-output flag name value found is)
   where
-    by : (member : Option Data) (found : Option Bool) → IsOptional flag member found → unwrap_or found false ≡ unwrap_or (as_bool (unwrap_or member (object no_members))) false
+    by : (member : Option Data) (found : Option Bool) → IsReadOf flag member found → unwrap_or found false ≡ unwrap_or (as_bool (unwrap_or member (object no_members))) false
     by None None is = refl
     by None (Some b) is = absurd is
     by (Some one) None is = absurd is

@@ -8,13 +8,10 @@ use Rattle.np_meaning.specs.Prelude.{BadCidr, Block, Cidr, IpBlock, IsBlockOf, I
 use Rattle.np_json.specs.Prelude.{Read, each_item, has_member, listed, member_of, must_be_object, optional, or_refuse, refuse_if, required, text, ◌>>◌}
 use Rattle.np_policies.proofs.ReadLemmas.{bind-output, then-output, optional-output, required-output, listed-output, each_item-output, or_refuse-output, IsOptional}
 use Rattle.np_meaning.proofs.MemberReads.{of_type-output}
+use Rattle.np_meaning.proofs.Outputs.{IsReadOf-optional}
 use Rattle.np_policies.proofs.WellLemmas.{unbroken-output}
 use Rattle.np_policies.specs.Prelude.{cidr, ip_block, is_misshapen, items_at, net_peer, net_peer_by, refuse_except, selector}
 use Rattle.np_model.specs.declared.network_policy.NetPeer.TheVariants.{Pods}
-
-IsReadOf-optional : {A : Type 0} (shape : Data → Read A) (member : Option Data) (output : Option A) → IsOptional shape member output → IsReadOf shape member output
-IsReadOf-optional shape member None is = subst (λ (found : Option Data). IsReadOf shape found None) (sym is) tt
-IsReadOf-optional shape member (Some output) is = subst (λ (found : Option Data). IsReadOf shape found (Some output)) (sym is.there) is.read
 
 is_some-optional : {A : Type 0} (shape : Data → Read A) (member : Option Data) (output : Option A) → IsOptional shape member output → is_some member ≡ is_some output
 is_some-optional shape member None is = ap is_some is

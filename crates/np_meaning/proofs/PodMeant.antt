@@ -9,11 +9,11 @@ use Rattle.std.proofs.Math.Bool.{or_assoc, or-false}
 use Rattle.serde_json.specs.Data.{Data, object, no_members}
 use Rattle.serde_json.specs.Find.{as_str}
 use Rattle.np_addr.specs.Prelude.{address_of}
-use Rattle.np_meaning.specs.Prelude.{Address, AreLabelsOf, BadAddress, BadProtocol, Four, IsContainerPort, IsNamespaceOf, IsPodOf, NamedPort, NamespaceItem, PodItem, Proto, Six, Tcp, has_name, is_address, is_final, is_text_empty, is_true_at, list_at, named_ports, number_at, object_at, protocol_of, says_address, text_at}
+use Rattle.np_meaning.specs.Prelude.{Address, AreLabelsOf, BadAddress, BadProtocol, Four, IsContainerPort, IsNamespaceOf, IsPodOf, IsReadOf, NamedPort, NamespaceItem, PodItem, Proto, Six, Tcp, has_name, is_address, is_final, is_text_empty, is_true_at, list_at, named_ports, number_at, object_at, protocol_of, says_address, text_at}
 use Rattle.np_conns.specs.Prelude.{proto_named}
 use Rattle.np_json.specs.Prelude.{flag, given, listed, member_of, must_be_object, name, namespaced_name, optional, or_refuse, port, protocol_name, required, text, word}
 use Rattle.np_meaning.proofs.MetaMeant.{labels-meant, namespaced_name-meant, IsOwn}
-use Rattle.np_meaning.proofs.Outputs.{OutputOf, optional-output, each-output, number_at-required, is_true_at-optional, text_at-optional, IsOptional, text-output}
+use Rattle.np_meaning.proofs.Outputs.{OutputOf, optional-output, each-output, number_at-required, is_true_at-optional, text_at-optional, text-output}
 use Rattle.np_meaning.proofs.MemberReads.{text_at-output, word-output, object_at-output, name-output}
 use Rattle.np_policies.proofs.ReadLemmas.{bind-output, then-output}
 use Rattle.np_objects.specs.Prelude.{address, address_by, container, container_port, distinct_addresses, has_address, if_named, is_finished, is_same_address, kept_with, label_map, namespace_metadata, namespace_object, no_status, owner_reference, pod, pod_ip, pod_item, pod_metadata, pod_spec, pod_status, port_name, unless_empty}
@@ -53,7 +53,7 @@ port_name-output value found is =
 pub port_name-meant : (value : Data) (found : Option (Option (List ℕ))) → optional (codes "name") port_name value ≡ Ok found → IsTextOr (text_at (codes "name") value) (option_flatten found)
 port_name-meant value found is = by (member_of (codes "name") value) found (optional-output port_name (codes "name") value found is)
   where
-    by : (member : Option Data) (found : Option (Option (List ℕ))) → IsOptional port_name member found → IsTextOr (unwrap_or (as_str (unwrap_or member (object no_members))) []) (option_flatten found)
+    by : (member : Option Data) (found : Option (Option (List ℕ))) → IsReadOf port_name member found → IsTextOr (unwrap_or (as_str (unwrap_or member (object no_members))) []) (option_flatten found)
     by None None is = refl
     by None (Some s) is = absurd is
     by (Some one) None is = absurd is
@@ -72,7 +72,7 @@ protocol_name-output value read is =
 pub protocol-meant : (value : Data) (found : Option Proto) → optional (codes "protocol") protocol_name value ≡ Ok found → protocol_of value ≡ unwrap_or found Tcp
 protocol-meant value found is = by (member_of (codes "protocol") value) found (optional-output protocol_name (codes "protocol") value found is)
   where
-    by : (member : Option Data) (found : Option Proto) → IsOptional protocol_name member found →
+    by : (member : Option Data) (found : Option Proto) → IsReadOf protocol_name member found →
         unwrap_or (proto_named (unwrap_or (as_str (unwrap_or member (object no_members))) [])) Tcp ≡ unwrap_or found Tcp
     by None None is = refl
     by None (Some read) is = absurd is
@@ -202,7 +202,7 @@ address-meant : (name : List ℕ) (value : Data) (found : Option (Option Address
     is_found one (option_flatten found) ≡ is_address (text_at name value) one
 address-meant name value found is one = by (member_of name value) found (optional-output address name value found is)
   where
-    by : (member : Option Data) (found : Option (Option Address)) → IsOptional address member found →
+    by : (member : Option Data) (found : Option (Option Address)) → IsReadOf address member found →
         is_found one (option_flatten found) ≡ is_address (unwrap_or (as_str (unwrap_or member (object no_members))) []) one
     by None None is = refl
     by None (Some read) is = absurd is
@@ -256,7 +256,7 @@ pod_status-meant value status is =
 status-meant : (value : Data) (found : Option PodStatus) → optional (codes "status") pod_status value ≡ Ok found → IsStatus (object_at (codes "status") value) (unwrap_or found no_status)
 status-meant value found is = by (member_of (codes "status") value) found (optional-output pod_status (codes "status") value found is)
   where
-    by : (member : Option Data) (found : Option PodStatus) → IsOptional pod_status member found → IsStatus (unwrap_or member (object no_members)) (unwrap_or found no_status)
+    by : (member : Option Data) (found : Option PodStatus) → IsReadOf pod_status member found → IsStatus (unwrap_or member (object no_members)) (unwrap_or found no_status)
     by None None is = record { addresses = λ one. refl; finished = refl }
     by None (Some status) is = absurd is
     by (Some one) None is = absurd is

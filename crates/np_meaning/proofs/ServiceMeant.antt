@@ -7,12 +7,12 @@ use Rattle.std.proofs.lemmas.Bool.Decides.{nat_tests}
 use Rattle.std.proofs.Math.Bool.{or-false}
 use Rattle.serde_json.specs.Data.{Data, object, Members, no_members, member}
 use Rattle.serde_json.specs.Find.{as_object, as_str}
-use Rattle.np_meaning.specs.Prelude.{IsServiceOf, IsServicePort, IsServiceSelector, Named, Number, Pair, PortName, ServiceItem, ServicePort, Tcp, entries_at, have_entries, is_text_of, list_at, number_at, object_at, target_at, text_at}
+use Rattle.np_meaning.specs.Prelude.{IsReadOf, IsServiceOf, IsServicePort, IsServiceSelector, Named, Number, Pair, PortName, ServiceItem, ServicePort, Tcp, entries_at, have_entries, is_text_of, list_at, number_at, object_at, target_at, text_at}
 use Rattle.np_json.specs.Prelude.{as_whole, labels, listed, member_of, must_be_object, namespaced_name, optional, pairs_of_members, port, port_number, protocol_name, required, text}
 use Rattle.np_labels.specs.Prelude.{label_requirement, meets_requirement, op_allows, value_of}
 use Rattle.np_labels.specs.declared.op.Op.TheVariants.{OneOf}
 use Rattle.np_meaning.proofs.MetaMeant.{labels-output, namespaced_name-meant, pairs-member}
-use Rattle.np_meaning.proofs.Outputs.{OutputOf, optional-output, each-output, number_at-required, text_at-optional, IsOptional}
+use Rattle.np_meaning.proofs.Outputs.{OutputOf, optional-output, each-output, number_at-required, text_at-optional}
 use Rattle.np_policies.proofs.ReadLemmas.{bind-output, then-output}
 use Rattle.np_meaning.proofs.PodMeant.{port_name-meant, port_name-output, protocol-meant, IsTextOr}
 use Rattle.np_objects.specs.Prelude.{by_name, by_number, is_text, is_zero, port_name, selector_of, service, service_item, service_port, service_spec, target_by, target_port}
@@ -53,7 +53,7 @@ selector-meant : (value : Data) (found : Option (List (List ℕ × List ℕ))) �
     IsServiceSelector (entries_at (codes "selector") value) (selector_of (unwrap_or found []))
 selector-meant value found is = by (member_of (codes "selector") value) found (optional-output labels (codes "selector") value found is)
   where
-    by : (member : Option Data) (found : Option (List (List ℕ × List ℕ))) → IsOptional labels member found →
+    by : (member : Option Data) (found : Option (List (List ℕ × List ℕ))) → IsReadOf labels member found →
         IsServiceSelector (unwrap_or (as_object (unwrap_or member (object no_members))) no_members) (selector_of (unwrap_or found []))
     by None None is = refl
     by None (Some pairs) is = absurd is
@@ -100,7 +100,7 @@ target-meant : (value : Data) (found : Option (Option PortName)) (n : ℕ) → o
     unwrap_or (option_flatten found) (Number n) ≡ target_at (number_at (codes "targetPort") value) (text_at (codes "targetPort") value) n
 target-meant value found n is = by (member_of (codes "targetPort") value) found (optional-output target_port (codes "targetPort") value found is)
   where
-    by : (member : Option Data) (found : Option (Option PortName)) → IsOptional target_port member found →
+    by : (member : Option Data) (found : Option (Option PortName)) → IsReadOf target_port member found →
         unwrap_or (option_flatten found) (Number n) ≡ target_at (as_whole (unwrap_or member (object no_members))) (unwrap_or (as_str (unwrap_or member (object no_members))) []) n
     by None None is = refl
     by None (Some target) is = absurd is

@@ -7,7 +7,7 @@ use Rattle.std.specs.Option.{option_map_or}
 use Rattle.std.specs.Ordering.{nat_cmp, ordering_then}
 use Rattle.std.specs.declared.cmp.Ordering.{Ordering}
 use Rattle.np_reading.specs.Readings.{Reading, refuse_found}
-use Rattle.np_reading.specs.Types.{AdminPolicy, BasePolicy, EqualPriority, IngressItem, Item, NetPolicy, ObjectName, PlacedIngress, Rank, Refusal, ServiceItem}
+use Rattle.np_reading.specs.Types.{AdminPolicy, BasePolicy, EqualPriority, IngressItem, Item, NetPolicy, ObjectName, PlacedIngress, Rank, ServiceItem}
 use Rattle.np_items.specs.declared.item.Item.TheVariants as item
 use Rattle.np_objects.specs.declared.object.Object.TheVariants as object
 use Rattle.np_owners.specs.Prelude.{compare_names}

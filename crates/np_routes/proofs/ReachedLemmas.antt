@@ -1,6 +1,6 @@
 -- The ports of a workload that are reached, and the rules that are looked at for them.
 -- For `Routes::ingress_set`, `sent_in_some` and 2 more.
-use Rattle.std.proofs.Common.{◌≡◌, ◌<◌, ◌≤◌, ◌+◌, ◌*◌, ℕ, List, [], ◌∷◌, ◌++◌, Bool, true, false, ◌&&◌, ◌||◌, Contains, Option, Some, None, eqb, length, get_or, take, arith, refl, sym, ap, subst, ◌∙◌}
+use Rattle.std.proofs.Common.{◌≡◌, ◌<◌, ◌≤◌, ◌+◌, ℕ, List, [], ◌∷◌, ◌++◌, Bool, true, false, ◌&&◌, ◌||◌, Contains, Option, Some, None, eqb, length, get_or, take, arith, refl, sym, ap, subst, ◌∙◌}
 use Rattle.std.specs.List.{list_any}
 use Rattle.std.specs.Option.{option_eq}
 use Rattle.std.proofs.Math.Nat.{mul-le-mul_right}

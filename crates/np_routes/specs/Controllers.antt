@@ -6,7 +6,7 @@ use Rattle.np_routes.specs.Types.{EstateLists, Four, Ingress, PortSpot, Stranger
 use Rattle.np_model.specs.Prelude.{families_of}
 use Rattle.np_fold.specs.Prelude.{Folding}
 use Rattle.np_routes.specs.Routes.{is_routed}
-use Rattle.np_rules.specs.Prelude.{PodEnd, contact, pod, pod_at, side_allows, side_rule_count, stranger_end}
+use Rattle.np_rules.specs.Prelude.{contact, pod, pod_at, side_allows, side_rule_count, stranger_end}
 use Rattle.np_kinds.specs.Prelude.{between_pods, first_side, source_pod}
 use Rattle.np_table.specs.Prelude.{rules_of_pair}
 

@@ -1,4 +1,4 @@
--- Lists whose items pass alike, and facts of lists that are joined. For FamilyLemmas, PlacedRules and 2 more.
+-- Lists whose items pass alike, and facts of lists that are joined. For FamilyLemmas, PlacedRules and 3 more.
 use Rattle.std.proofs.Common.{◌≡◌, ℕ, ◌+◌, List, [], ◌∷◌, ◌++◌, Bool, ◌&&◌, ◌||◌, map, filter, Some, refl, ap, ◌∙◌, if◌then◌else◌}
 use Rattle.std.specs.List.{AllByRecursion, enumerate_from, find, flat_map, list_all, list_any}
 use Rattle.np_base.proofs.Each.{All-parts}

@@ -21,5 +21,6 @@ pub mod OwnPolicies
 pub mod KeptLemmas
 pub mod Protocols
 pub mod StrangerLemmas
+pub mod SameVerdicts
 pub mod SameSideLemmas
 pub mod PortNameLemmas

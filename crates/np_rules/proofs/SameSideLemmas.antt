@@ -1,8 +1,8 @@
 -- Pods that the policies of an estate do not tell apart have sides that are the same.
 -- For `is_alike_for_net`, `is_same_side` and crates above.
-use Rattle.std.proofs.Common.{◌≡◌, ℕ, List, [], ◌∷◌, ◌++◌, Bool, map, filter, find, true, false, ◌&&◌, Option, None, Some, is_some, refl, sym, ap, ◌∙◌, if◌then◌else◌}
+use Rattle.std.proofs.Common.{◌≡◌, ℕ, List, [], ◌∷◌, Bool, filter, true, false, ◌&&◌, Option, None, Some, refl, sym, ap, ◌∙◌, if◌then◌else◌}
 use Rattle.std.specs.Cmp.{booleans_Decides}
-use Rattle.std.specs.List.{AllByRecursion, enumerate_from, list_all, list_any}
+use Rattle.std.specs.List.{list_all, list_any}
 use Rattle.std.specs.Str.{bytes_eq}
 use Rattle.std.proofs.lemmas.Bool.{false≢true}
 use Rattle.std.proofs.Math.Bool.{and-false}
@@ -13,8 +13,10 @@ use Rattle.np_conns.specs.Prelude.{same_proto}
 use Rattle.np_model.specs.declared.admin_policy.AdminPort.{AdminPort}
 use Rattle.np_model.specs.declared.admin_policy.AdminPort.TheVariants as admin_port
 use Rattle.np_model.specs.declared.network_policy.NetPort.TheVariants as net_port
-use Rattle.np_rules.proofs.EachItem.{All-each, filter-same, find-same, list_any-same, none_or_any-same}
-use Rattle.np_rules.specs.Prelude.{Action, AdminPolicy, AdminRule, Allow, BasePolicy, Contact, Deny, Direction, Egress, EstateLists, Family, HaveSamePorts, Ingress, IsSameSide, ModelEnd, NamedPort, NetPolicy, NetPort, NetRule, Pass, PlacedAdminRule, PlacedBaseRule, PlacedNetRule, PodEnd, PortSpot, RuleName, action_decides, admin_decider, admin_decides, admin_entry_matches, admin_peer_matches, admin_places, admin_places_of, admin_precedes, admin_rule_matches, admin_rule_name, admin_says, base_decider, base_decides, base_places, base_rules_of, base_says, contact, decider, destination_of, is_alike_for_base, is_alike_for_net, is_isolated, is_named, is_subject_of_both, isolates, isolating_names, least_by, lower_allows, lower_decider, net_decider, net_decides, net_entry_matches, net_peer_matches, net_places, net_places_of, net_policy_name, net_precedes, net_rule_matches, net_rules_of, net_selects, none_or_any, permits, placed_net_matches, pod, side_allows, subject_selects}
+use Rattle.np_rules.proofs.EachItem.{All-each, none_or_any-same}
+use Rattle.std.specs.Prelude.{IfSome}
+use Rattle.np_rules.proofs.SameVerdicts.{MatchAlike, SelectAlike, pods_decide-same, pods_allow-same}
+use Rattle.np_rules.specs.Prelude.{AdminRule, BasePolicy, Contact, Direction, Egress, EstateLists, Family, HaveSamePorts, Ingress, IsSameSide, ModelEnd, NamedPort, NetPolicy, NetPort, NetRule, PlacedAdminRule, PlacedBaseRule, PlacedNetRule, PodEnd, PortSpot, admin_entry_matches, admin_peer_matches, admin_places, admin_rule_matches, base_places, contact, decider, destination_of, is_alike_for_base, is_alike_for_net, is_named, is_subject_of_both, net_entry_matches, net_peer_matches, net_places, net_rule_matches, net_selects, none_or_any, pod, side_allows, subject_selects}
 use mathlib.Core.Bool.{beq}
 
 -- ---- the NetworkPolicies of their namespaces
@@ -47,61 +49,26 @@ alike-own policies p q =
 -- ---- two pods that the policies of an estate do not tell apart
 
 module _ (lists : EstateLists) (direction : Direction) (p q : PodEnd) (same : IsSameSide lists direction p q) where
-  -- ---- the rules that speak of them
+  -- ---- the policies that select them
 
-  admins-each : AllByRecursion (λ policy. subject_selects policy.subject p ≡ subject_selects policy.subject q) lists.admin_policies
-  admins-each =
-      All-weaker (λ policy. is_subject_of_both policy.subject p q ≡ true) (λ policy. subject_selects policy.subject p ≡ subject_selects policy.subject q)
-      (λ policy is. (booleans_Decides (subject_selects policy.subject p) (subject_selects policy.subject q)).0 is) lists.admin_policies
-      (recursion_from_All _ lists.admin_policies (AllPass-from_list_all (λ policy. is_subject_of_both policy.subject p q) lists.admin_policies same.admin))
+  selected : SelectAlike lists p q
+  selected = record {
+    admin =
+        All-weaker (λ policy. is_subject_of_both policy.subject p q ≡ true) (λ policy. subject_selects policy.subject p ≡ subject_selects policy.subject q)
+        (λ policy is. (booleans_Decides (subject_selects policy.subject p) (subject_selects policy.subject q)).0 is) lists.admin_policies
+        (recursion_from_All _ lists.admin_policies (AllPass-from_list_all (λ policy. is_subject_of_both policy.subject p q) lists.admin_policies same.admin));
+    net =
+        All-weaker (λ policy. beq (net_selects policy p) (net_selects policy q) ≡ true) (λ policy. net_selects policy p ≡ net_selects policy q)
+        (λ policy is. (booleans_Decides (net_selects policy p) (net_selects policy q)).0 is) lists.net_policies
+        (recursion_from_All _ lists.net_policies (AllPass-from_list_all (λ policy. beq (net_selects policy p) (net_selects policy q)) lists.net_policies same.net));
+    base = of_baseline lists.baseline same.base;
+  }
+    where
+      of_baseline : (baseline : Option BasePolicy) → is_alike_for_base baseline p q ≡ true → IfSome baseline (λ policy. subject_selects policy.subject p ≡ subject_selects policy.subject q)
+      of_baseline None alike = tt
+      of_baseline (Some policy) alike = (booleans_Decides (subject_selects policy.subject p) (subject_selects policy.subject q)).0 alike
 
-  nets-each : AllByRecursion (λ policy. net_selects policy p ≡ net_selects policy q) lists.net_policies
-  nets-each =
-      All-weaker (λ policy. beq (net_selects policy p) (net_selects policy q) ≡ true) (λ policy. net_selects policy p ≡ net_selects policy q)
-      (λ policy is. (booleans_Decides (net_selects policy p) (net_selects policy q)).0 is) lists.net_policies
-      (recursion_from_All _ lists.net_policies (AllPass-from_list_all (λ policy. beq (net_selects policy p) (net_selects policy q)) lists.net_policies same.net))
-
-  admins-of : (policies : List AdminPolicy) → AllByRecursion (λ policy. subject_selects policy.subject p ≡ subject_selects policy.subject q) policies →
-      admin_places policies direction p ≡ admin_places policies direction q
-  admins-of [] each = refl
-  admins-of (policy ∷ policies) each =
-      ap (λ b. (if b then admin_places_of direction policy else []) ++ admin_places policies direction p) each.0
-      ∙ ap (λ rest. (if subject_selects policy.subject q then admin_places_of direction policy else []) ++ rest) (admins-of policies each.1)
-
-  nets-of : (policies : List NetPolicy) → AllByRecursion (λ policy. net_selects policy p ≡ net_selects policy q) policies →
-      net_places policies direction p ≡ net_places policies direction q
-  nets-of [] each = refl
-  nets-of (policy ∷ policies) each =
-      ap (λ b. (if b then net_places_of direction policy else []) ++ net_places policies direction p) each.0
-      ∙ ap (λ rest. (if net_selects policy q then net_places_of direction policy else []) ++ rest) (nets-of policies each.1)
-
-  base-of : (baseline : Option BasePolicy) → is_alike_for_base baseline p q ≡ true → base_places baseline direction p ≡ base_places baseline direction q
-  base-of None alike = refl
-  base-of (Some policy) alike =
-      ap (λ b. if b then map (λ numbered. record { place = numbered.0; rule = numbered.1 }) (enumerate_from 0 (base_rules_of direction policy)) else [])
-      ((booleans_Decides (subject_selects policy.subject p) (subject_selects policy.subject q)).0 alike)
-
-  pub admins-same : admin_places lists.admin_policies direction p ≡ admin_places lists.admin_policies direction q
-  admins-same = admins-of lists.admin_policies admins-each
-
-  pub nets-same : net_places lists.net_policies direction p ≡ net_places lists.net_policies direction q
-  nets-same = nets-of lists.net_policies nets-each
-
-  pub base-same : base_places lists.baseline direction p ≡ base_places lists.baseline direction q
-  base-same = base-of lists.baseline same.base
-
-  isolates-each : AllByRecursion (λ policy. isolates direction p policy ≡ isolates direction q policy) lists.net_policies
-  isolates-each =
-      All-weaker (λ policy. net_selects policy p ≡ net_selects policy q) (λ policy. isolates direction p policy ≡ isolates direction q policy)
-      (λ policy is. ap (λ b. b && is_some (net_rules_of direction policy)) is) lists.net_policies nets-each
-
-  isolated-same : is_isolated lists.net_policies direction p ≡ is_isolated lists.net_policies direction q
-  isolated-same = list_any-same (isolates direction p) (isolates direction q) lists.net_policies isolates-each
-
-  isolating-same : isolating_names lists.net_policies direction p ≡ isolating_names lists.net_policies direction q
-  isolating-same = ap (map net_policy_name) (filter-same (isolates direction p) (isolates direction q) lists.net_policies isolates-each)
-
-  -- ---- what these say of a far end
+  -- ---- what their rules match
 
   module _ (far : ModelEnd) (family : Family) (spot : PortSpot) where
     abbrev seen : PodEnd → Contact
@@ -132,67 +99,15 @@ module _ (lists : EstateLists) (direction : Direction) (p q : PodEnd) (same : Is
         (none_or_any-same (λ entry. net_entry_matches entry (seen p).destination spot) (λ entry. net_entry_matches entry (seen q).destination spot) rule.ports
         (All-each _ (net_entry-same direction same.ports) rule.ports))
 
-    admin-says : admin_decider lists.admin_policies direction p (seen p) ≡ admin_decider lists.admin_policies direction q (seen q)
-    admin-says =
-        ap (λ places. least_by admin_precedes (filter (λ placed. admin_rule_matches placed.rule (seen p)) places)) admins-same
-        ∙ ap (least_by admin_precedes)
-        (filter-same (λ placed. admin_rule_matches placed.rule (seen p)) (λ placed. admin_rule_matches placed.rule (seen q)) (admin_places lists.admin_policies direction q)
-        (All-each _ (λ (placed : PlacedAdminRule). admin_rule-same placed.rule) (admin_places lists.admin_policies direction q)))
-
-    base-says : base_decider lists.baseline direction p (seen p) ≡ base_decider lists.baseline direction q (seen q)
-    base-says =
-        ap (find (λ placed. admin_rule_matches placed.rule (seen p))) base-same
-        ∙ find-same (λ placed. admin_rule_matches placed.rule (seen p)) (λ placed. admin_rule_matches placed.rule (seen q)) (base_places lists.baseline direction q)
-        (All-each _ (λ (placed : PlacedBaseRule). admin_rule-same placed.rule) (base_places lists.baseline direction q))
-
-    net-says : permits lists.net_policies direction p (seen p) ≡ permits lists.net_policies direction q (seen q)
-    net-says =
-        ap (list_any (placed_net_matches (seen p))) nets-same
-        ∙ list_any-same (placed_net_matches (seen p)) (placed_net_matches (seen q)) (net_places lists.net_policies direction q)
-        (All-each _ (λ (placed : PlacedNetRule). net_rule-same placed.policy.namespace placed.rule) (net_places lists.net_policies direction q))
-
-    lower-same : lower_allows lists direction p (seen p) ≡ lower_allows lists direction q (seen q)
-    lower-same =
-        ap (λ b. if b then permits lists.net_policies direction p (seen p) else base_says (base_decider lists.baseline direction p (seen p))) isolated-same
-        ∙ ap (λ b. if is_isolated lists.net_policies direction q then b else base_says (base_decider lists.baseline direction p (seen p))) net-says
-        ∙ ap (λ decides. if is_isolated lists.net_policies direction q then permits lists.net_policies direction q (seen q) else base_says decides) base-says
+    matched : MatchAlike lists direction q (seen p) (seen q)
+    matched = record {
+      admin = All-each _ (λ (placed : PlacedAdminRule). admin_rule-same placed.rule) (admin_places lists.admin_policies direction q);
+      net = All-each _ (λ (placed : PlacedNetRule). net_rule-same placed.policy.namespace placed.rule) (net_places lists.net_policies direction q);
+      base = All-each _ (λ (placed : PlacedBaseRule). admin_rule-same placed.rule) (base_places lists.baseline direction q);
+    }
 
     pub side-same : side_allows lists direction p (seen p) ≡ side_allows lists direction q (seen q)
-    unfolding side_allows
-    side-same =
-        ap (λ decides. admin_says decides (lower_allows lists direction p (seen p))) admin-says
-        ∙ ap (admin_says (admin_decider lists.admin_policies direction q (seen q))) lower-same
-
-    -- ---- what decides there
-
-    net-decides : net_decider lists.net_policies direction p (seen p) ≡ net_decider lists.net_policies direction q (seen q)
-    net-decides =
-        ap (λ places. least_by net_precedes (filter (placed_net_matches (seen p)) places)) nets-same
-        ∙ ap (least_by net_precedes)
-        (filter-same (placed_net_matches (seen p)) (placed_net_matches (seen q)) (net_places lists.net_policies direction q)
-        (All-each _ (λ (placed : PlacedNetRule). net_rule-same placed.policy.namespace placed.rule) (net_places lists.net_policies direction q)))
-
-    lower-decides : (pass : Option RuleName) → lower_decider lists direction p (seen p) pass ≡ lower_decider lists direction q (seen q) pass
-    lower-decides pass =
-        ap (λ b. if b then net_decides pass (isolating_names lists.net_policies direction p) (net_decider lists.net_policies direction p (seen p))
-        else base_decides pass (base_decider lists.baseline direction p (seen p))) isolated-same
-        ∙ ap (λ names. if is_isolated lists.net_policies direction q then net_decides pass names (net_decider lists.net_policies direction p (seen p))
-        else base_decides pass (base_decider lists.baseline direction p (seen p))) isolating-same
-        ∙ ap (λ decides. if is_isolated lists.net_policies direction q then net_decides pass (isolating_names lists.net_policies direction q) decides
-        else base_decides pass (base_decider lists.baseline direction p (seen p))) net-decides
-        ∙ ap (λ decides. if is_isolated lists.net_policies direction q
-        then net_decides pass (isolating_names lists.net_policies direction q) (net_decider lists.net_policies direction q (seen q))
-        else base_decides pass decides) base-says
-
-    admin-decides : (placed : Option PlacedAdminRule) → admin_decides placed (lower_decider lists direction p (seen p)) ≡ admin_decides placed (lower_decider lists direction q (seen q))
-    admin-decides None = lower-decides None
-    admin-decides (Some placed) = by_action placed.rule.action
-      where
-        by_action : (action : Action) →
-            action_decides action (admin_rule_name placed) (lower_decider lists direction p (seen p)) ≡ action_decides action (admin_rule_name placed) (lower_decider lists direction q (seen q))
-        by_action Allow = refl
-        by_action Deny = refl
-        by_action Pass = lower-decides (Some (admin_rule_name placed))
+    side-same = pods_allow-same lists direction p q (seen p) (seen q) selected matched
 
     pub decider-same : decider lists direction (pod p) (seen p) ≡ decider lists direction (pod q) (seen q)
-    decider-same = ap (λ placed. admin_decides placed (lower_decider lists direction p (seen p))) admin-says ∙ admin-decides (admin_decider lists.admin_policies direction q (seen q))
+    decider-same = pods_decide-same lists direction p q (seen p) (seen q) selected matched

@@ -1,8 +1,8 @@
 -- The set that a text writes is found among all sets. For GrammarLemmas.
-use Rattle.std.proofs.Common.{◌≡◌, ℕ, zero, suc, ◌+◌, ◌≤◌, List, [], ◌∷◌, Bool, true, false, Option, Some, None, map, eqb, refl, sym, ap, subst, ◌∙◌, inl, inr, arith}
+use Rattle.std.proofs.Common.{◌≡◌, ℕ, zero, suc, ◌+◌, List, [], ◌∷◌, Bool, true, false, Option, Some, None, map, refl, sym, ap, subst, ◌∙◌, inl, inr, arith}
 use Rattle.std.specs.List.{AllByRecursion, find, flat_map}
 use Rattle.std.specs.Str.{bytes_eq}
-use Rattle.std.proofs.lemmas.Bool.{cases_Bool, cond_both, eqb-false, true≢false}
+use Rattle.std.proofs.lemmas.Bool.{cases_Bool, cond_both, true≢false}
 use Rattle.std.proofs.lemmas.Option.{none-some, same_Some}
 use Rattle.std.proofs.lemmas.Slice.Eq.{bytes_eq-Decides}
 use Rattle.np_base.specs.Ranges.{IsAscending}
@@ -12,6 +12,7 @@ use Rattle.np_base.proofs.Each.{All-weaker, All-parts, All-append}
 use Rattle.np_check.proofs.SortedLemmas.{each_map}
 use Rattle.np_conns.proofs.ConnLemmas.{spans_of-has_spot}
 use Rattle.np_conns.proofs.OneText.{conns_text-injective}
+use Rattle.np_conns.proofs.RunLemmas.{onto_runs-ascends}
 use Rattle.np_conns.specs.Prelude.{AscendsInPorts, Conns, IsConns, conns_text, has_spot, onto_runs, runs, runs_from}
 use Rattle.np_rules.proofs.EachItem.{All-flat}
 
@@ -56,14 +57,6 @@ choices-each P passes first (suc count) all =
     cond_both (passes first) (onto_runs first (runs_from passes (first + 1) count)) (runs_from passes (first + 1) count) P
     (λ _. choices-each (λ above. P (onto_runs first above)) passes (first + 1) count (map-each P (onto_runs first) (choices (first + 1) count) parts.1))
     (λ _. choices-each P passes (first + 1) count parts.0)
-
--- a port put before the runs above it keeps them ascending
-onto_runs-ascends : (port last : ℕ) (above : List (Range ℕ)) → port ≤ last → IsAscending (λ p. p) (port + 1) last above → IsAscending (λ p. p) port last (onto_runs port above)
-onto_runs-ascends port last [] within ascends = (omega arith, omega arith, within, tt)
-onto_runs-ascends port last (run ∷ above) within ascends =
-    cond_both (eqb run.lo (port + 1)) _ _ (λ ranges. IsAscending (λ p. p) port last ranges)
-    (λ touches. (omega arith, omega arith, ascends.2, ascends.3))
-    (λ apart. let gap : run.lo ≡ port + 1 → ⊥ = eqb-false run.lo (port + 1) apart in (omega arith, omega arith, within, (omega arith, ascends.1, ascends.2, ascends.3)))
 
 -- all choices ascend
 choices-ascend : (first count last : ℕ) → first + count ≡ last + 1 → AllByRecursion (IsAscending (λ p. p) first last) (choices first count)

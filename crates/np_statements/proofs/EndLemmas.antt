@@ -1,18 +1,17 @@
 -- The workloads of a form. For `ends_of`, `is_in_namespace` and 2 more.
-use Rattle.std.proofs.Common.{◌≡◌, ℕ, zero, suc, ◌+◌, ◌<◌, nat_le, List, [], ◌∷◌, ◌++◌, Bool, true, false, Option, Some, None, Ok, All, length, get_or, slice_get, slice_index, refl, sym, ap, subst, ◌∙◌, arith, append-nil, zero-add}
+use Rattle.std.proofs.Common.{◌≡◌, ℕ, zero, suc, ◌+◌, ◌<◌, ◌≤◌, nat_le, List, [], ◌∷◌, ◌++◌, Bool, true, false, Option, Some, None, Ok, All, length, get_or, slice_get, slice_index, refl, sym, ap, subst, ◌∙◌, arith, append-nil, zero-add, inl, inr}
 use Rattle.std.specs.Prelude.{filter}
 use Rattle.std.specs.List.{range_with_len}
 use Rattle.std.specs.Option.{option_map_or}
 use Rattle.std.specs.Str.{bytes_eq}
-use Rattle.std.proofs.lemmas.Bool.{and_from, le-leb, true≢false}
+use Rattle.std.proofs.lemmas.Bool.{and_from, and_parts, cases_Bool, le-leb, leb-true, true≢false}
 use Rattle.std.proofs.lemmas.List.Elements.{All-cons, All-filter, All-nil, All-weaker, filter-append}
 use Rattle.std.proofs.lemmas.List.Quantifiers.{position-Some}
 use Rattle.std.proofs.lemmas.Option.{slice_get_read}
 use Rattle.np_addr.specs.Prelude.{AddressRanges}
 use Rattle.np_statements.specs.Prelude.{Addresses, Block, Cidr, EndForm, Ends, EstateLists, Namespace, Pod, Pods, Work, addresses_alone, all_works, block_addresses, ends_of, every_address, is_address_form, is_work_in_namespace, named_alone, works_alone}
-use Rattle.np_check.proofs.FirstLemmas.{range-append}
-use Rattle.np_check.proofs.SortedLemmas.{filtered}
-use Rattle.np_check.specs.Prelude.{HasNoAddress, is_ascending}
+use Rattle.np_table.proofs.PlaceLemmas.{range-append}
+use Rattle.np_check.specs.Prelude.{HasNoAddress, ascends_from, is_ascending}
 use Rattle.np_fold.specs.Prelude.{Workload, folding_of, members_of, number_named}
 use Rattle.np_statements.proofs.StepLemmas.{same_ok}
 use Rattle.np_kinds.specs.Prelude.{IsWorkload, number_of_workloads, source_pod}
@@ -62,6 +61,23 @@ filter-below test low count = All-filter test (λ n. n < low + count) (range_wit
 filter-all : (low count : ℕ) → filter (λ n. true) (range_with_len low count) ≡ range_with_len low count
 filter-all low zero = refl
 filter-all low (suc count) = ap (λ (ns : List ℕ). low ∷ ns) (filter-all (low + 1) count)
+
+-- numbers that ascend from a greater one on ascend from a lesser one on
+lower : (least low : ℕ) (numbers : List ℕ) → low ≤ least → ascends_from least numbers ≡ true → ascends_from low numbers ≡ true
+lower least low [] below ascends = refl
+lower least low (n ∷ numbers) below ascends =
+    let parts = and_parts (nat_le least n) (ascends_from (n + 1) numbers) ascends in
+    let above = leb-true least n parts.0 in
+    and_from (nat_le low n) (ascends_from (n + 1) numbers) (le-leb low n (omega arith)) parts.1
+
+-- numbers that are filtered ascend
+filtered : (test : ℕ → Bool) (low count : ℕ) → ascends_from low (filter test (range_with_len low count)) ≡ true
+filtered test low zero = refl
+filtered test low (suc count) =
+    elim (cases_Bool (test low)) [
+      | inl passes ↦ rw passes (and_from (nat_le low low) (ascends_from (low + 1) (filter test (range_with_len (low + 1) count))) (le-leb low low (omega arith)) (filtered test (low + 1) count))
+      | inr fails ↦ rw fails (lower (low + 1) low (filter test (range_with_len (low + 1) count)) (omega arith) (filtered test (low + 1) count))
+    ]
 
 are-works : (lists : EstateLists) (form : EndForm) (test : ℕ → Bool) → AreEnds lists form (works_alone (filter test (all_works lists)))
 are-works lists form test =

@@ -1,5 +1,5 @@
 -- What passes between the pods that stand for kinds, by the sets that their sides allow. For `set_of_kinds`.
-use Rattle.std.proofs.Common.{◌≡◌, ◌<◌, ℕ, Bool, true, false, ◌&&◌, is_some, length, slice_index, refl, sym, ap, subst, ◌∙◌}
+use Rattle.std.proofs.Common.{◌≡◌, ◌<◌, ℕ, true, false, ◌&&◌, is_some, length, slice_index, refl, sym, ap, subst, ◌∙◌}
 use Rattle.np_conns.specs.Prelude.{Conns, IsConns, has_spot, is_spot}
 use Rattle.np_fold.specs.Prelude.{folding_of}
 use Rattle.np_kinds.specs.Prelude.{IsWorkload, KnownSides, KnowsMore, kind_side, known_at, knows, side_allows_pod}

@@ -11,7 +11,7 @@ use Rattle.np_fold.specs.Prelude.{Folding}
 
 -- ---- numbers in a row
 
-range-append : (a m n : ℕ) → range_with_len a (m + n) ≡ range_with_len a m ++ range_with_len (a + m) n
+pub range-append : (a m n : ℕ) → range_with_len a (m + n) ≡ range_with_len a m ++ range_with_len (a + m) n
 range-append a zero n =
     ap (range_with_len a) (let same : zero + n ≡ n = omega arith in same)
     ∙ ap (λ (k : ℕ). range_with_len k n) (let same : a ≡ a + zero = omega arith in same)

@@ -1,5 +1,5 @@
 -- Sets of connections, and the rows of them. For `Rows::next`, `add_row` and 9 more.
-use Rattle.std.proofs.Common.{◌≡◌, ◌≢◌, ℕ, List, [], ◌∷◌, ◌++◌, true, false, not, Option, None, Some, Result, Ok, Err, IfOk, OnErr, OnOk, length, get_or, arith, refl, ◌∙◌, subst}
+use Rattle.std.proofs.Common.{◌≡◌, ◌≢◌, ℕ, List, [], ◌∷◌, ◌++◌, true, false, not, Option, None, Some, Result, Ok, Err, IfOk, OnErr, OnOk, length, get_or, arith, refl, subst}
 use Rattle.std.proofs.lemmas.Bool.{and_from, both_ways, false_from_ne_true, or_left}
 use Rattle.np_table.specs.Prelude.{Family, Four, PortSpot, Range, RowKey, Sctp, Six, Tcp, Udp, has_no_range, is_nothing, row_if, rows_in, rows_of_both}
 use Rattle.np_base.proofs.Ranges.{is_within-inside}

@@ -7,13 +7,13 @@ use Rattle.np_classes.proofs.Relations.{class_of_first, first_of, same_class}
 use Rattle.np_classes.specs.Classes.{class_of}
 use Rattle.np_model.specs.Prelude.{IsLawful}
 use Rattle.np_fold.proofs.AlikeLemmas.{kinds-are}
-use Rattle.np_fold.proofs.WorkloadLemmas.{number-in_workloads, one_workload}
+use Rattle.np_fold.proofs.WorkloadLemmas.{one_workload}
 use Rattle.np_fold.specs.Prelude.{folding_of, kinds_alike, workload_count, workload_number}
 use Rattle.np_rules.specs.Prelude.{ModelEnd, contact, decider, pod, pod_at}
 use Rattle.np_kinds.proofs.KindNumbers.{first_pod-there, firsts-workloads, kinds-by}
 use Rattle.np_kinds.proofs.KindVerdicts.{SameKindEnd-ends, got-same, sent-same}
 use Rattle.np_kinds.proofs.MemberLemmas.{member-number, members-some, source-member}
-use Rattle.np_kinds.proofs.PairLemmas.{one_kind-by, one_kind-sources, pod_there, source-within}
+use Rattle.np_kinds.proofs.PairLemmas.{number-within, one_kind-by, one_kind-sources, pod_there, source-within}
 use Rattle.np_kinds.specs.Prelude.{AreOneKind, source_pod}
 
 -- ---- pods that may stand for one another
@@ -55,10 +55,6 @@ pub number_is : (lists : EstateLists) (p : ℕ) → p < length lists.pods → sl
 unfolding folding_of
 number_is lists p within = get_or-map-range_with_len (workload_number lists) 0 (length lists.pods) p p 0 within (omega arith)
 
-pub number_within : (lists : EstateLists) (p : ℕ) → p < length lists.pods → workload_number lists p < length (folding_of lists).workloads
-unfolding folding_of
-number_within lists p within = number-in_workloads lists p within
-
 -- the first workload of a kind, by a workload of it
 kind_first : (lists : EstateLists) (w : ℕ) → w < workload_count lists
     → (first : ℕ) × (slice_get (folding_of lists).first_of_kinds (class_of (kinds_alike lists) (workload_count lists) w) ≡ Some first) × (first < workload_count lists) ×
@@ -77,7 +73,7 @@ kind_of_first lists kind first is = class_of_first (kinds_alike lists) (workload
 kind_by_number : (lists : EstateLists) (p : ℕ) → p < length lists.pods →
     (workload_number lists p < workload_count lists) × (pod_kind lists p ≡ class_of (kinds_alike lists) (workload_count lists) (workload_number lists p))
 kind_by_number lists p within =
-    let kind = kinds-by lists (workload_number lists p) (number_within lists p within) in
+    let kind = kinds-by lists (workload_number lists p) (number-within lists p within) in
     (kind.0, ap (slice_index (folding_of lists).kinds) (number_is lists p within) ∙ kind.2)
 
 -- each pod is of one of the kinds
@@ -91,7 +87,7 @@ kind_within lists p within =
 first_stands : (lists : EstateLists) (p : ℕ) → IsLawful lists → p < length lists.pods → StandsFor lists p (source_pod (folding_of lists) (workload_number lists p))
 first_stands lists p lawful within =
     let number = workload_number lists p in
-    let here = number_within lists p within in
+    let here = number-within lists p within in
     let near = source_pod (folding_of lists) number in
     let near_in = source-within lists number (kind_by_number lists p within).0 in
     let near_has = source-member (folding_of lists) number (members-some lists (folding_of lists) number refl here) in

@@ -8,7 +8,8 @@ use Rattle.np_base.proofs.Lists.{slice_get-push_other, slice_get-push_same}
 use Rattle.np_unused.specs.Prelude.{AreKindPods, AreKindPodsOf, EstateLists, IsKindPodOf, KindPod, pod_kind}
 use Rattle.np_fold.specs.Prelude.{folding_of, workload_number}
 use Rattle.np_unused.proofs.FlagLemmas.{get-set_other, get-set_same}
-use Rattle.np_unused.proofs.KindPodLemmas.{kind_within, number_is, number_within}
+use Rattle.np_kinds.proofs.PairLemmas.{number-within}
+use Rattle.np_unused.proofs.KindPodLemmas.{kind_within, number_is}
 use Rattle.np_kinds.proofs.KindNumbers.{firsts-workloads, kind-there}
 
 -- ---- numbers and kinds of pods
@@ -21,7 +22,7 @@ pub number_there : (lists : EstateLists) (place : ℕ) → place < length lists.
 number_there lists place within = rw (numbers_count lists) within
 
 pub kind_there : (lists : EstateLists) (place : ℕ) → place < length lists.pods → slice_index (folding_of lists).numbers place < length (folding_of lists).kinds
-kind_there lists place within = rw (number_is lists place within) (kind-there lists (folding_of lists) (workload_number lists place) refl (number_within lists place within))
+kind_there lists place within = rw (number_is lists place within) (kind-there lists (folding_of lists) (workload_number lists place) refl (number-within lists place within))
 
 -- ---- one pod more is looked at
 

@@ -1,11 +1,12 @@
 -- Rules are told by the names of their policies and their places. For NameLemmas.
-use Rattle.std.proofs.Common.{◌≡◌, ◌≢◌, ℕ, zero, suc, List, [], ◌∷◌, ◌++◌, Bool, true, false, not, ◌==◌, get_or, Some, AllPairs, Ordering, Equal, append_assoc, eq-eqb, refl, sym, ◌∙◌, ap}
+use Rattle.std.proofs.Common.{◌≡◌, ◌≢◌, ℕ, zero, suc, List, [], ◌∷◌, ◌++◌, Bool, true, not, get_or, Some, AllPairs, Ordering, Equal, append_assoc, refl, sym, ◌∙◌, ap}
 use Rattle.std.specs.Cmp.Lexicographic.{slice_cmp}
-use Rattle.std.specs.List.{list_all, list_any, slice_get}
+use Rattle.std.specs.List.{list_all, slice_get}
 use Rattle.std.specs.Ordering.{nat_cmp}
-use Rattle.std.proofs.lemmas.Bool.{and_parts, false≢true, not-true, or_parts, true≢false}
+use Rattle.std.proofs.lemmas.Bool.{and_parts, false≢true}
 use Rattle.std.proofs.lemmas.Cmp.{nat_list_cmp_total, tied_itself}
 use Rattle.std.proofs.lemmas.Slice.Eq.{bytes_eq-Decides}
+use Rattle.np_fold.proofs.OwnerNameLemmas.{cut, name-lacks_slash}
 use Rattle.np_model.specs.Prelude.{AreNamesApart, IsLawful, PolicyStandsBefore, decides_before, is_name, is_well, is_well_net_policy}
 use Rattle.np_unused.specs.Prelude.{AdminPolicy, EstateLists, NetPolicy}
 use Rattle.np_rules.specs.Prelude.{net_policy_name}
@@ -22,29 +23,6 @@ pub one_admin_policy : (lists : EstateLists) → IsLawful lists → (p q : ℕ) 
 one_admin_policy lists lawful = place_told (λ policy. policy.name) lists.admin_policies (admin_names_differ lists.admin_policies lawful.admin_policies_apart)
 
 -- ---- NetworkPolicies
-
-abbrev Lacks : ℕ → List ℕ → Type 0
-Lacks byte text = list_any (λ other. other == byte) text ≡ false
-
-not-first : (byte other : ℕ) (others : List ℕ) → Lacks byte (other ∷ others) → byte ≡ other → ⊥
-not-first byte other others lacks same =
-    true≢false (sym (eq-eqb other byte (sym same)) ∙ (or_parts (other == byte) (list_any (λ next. next == byte) others) lacks).0)
-
--- texts that are cut at the first of a byte are equal part by part
-cut : (byte : ℕ) (front front' rest rest' : List ℕ) → Lacks byte front → Lacks byte front' → front ++ byte ∷ rest ≡ front' ++ byte ∷ rest' → (front ≡ front') × (rest ≡ rest')
-cut byte [] [] rest rest' lacks lacks' same = (refl, cc)
-cut byte [] (y ∷ ys) rest rest' lacks lacks' same = absurd (not-first byte y ys lacks' cc)
-cut byte (x ∷ xs) [] rest rest' lacks lacks' same = absurd (not-first byte x xs lacks cc)
-cut byte (x ∷ xs) (y ∷ ys) rest rest' lacks lacks' same =
-    let heads : x ≡ y = cc in
-    let tails : xs ++ byte ∷ rest ≡ ys ++ byte ∷ rest' = cc in
-    let fronts = (or_parts (x == byte) (list_any (λ next. next == byte) xs) lacks).1 in
-    let fronts' = (or_parts (y == byte) (list_any (λ next. next == byte) ys) lacks').1 in
-    let both = cut byte xs ys rest rest' fronts fronts' tails in
-    (rw (heads, both.0) refl, both.1)
-
-lacks_slash : (text : List ℕ) → is_name text ≡ true → Lacks 47 text
-lacks_slash text name = not-true _ (and_parts _ _ name).1
 
 spelled : (policy : NetPolicy) → net_policy_name policy ≡ policy.namespace ++ 47 ∷ policy.name
 spelled policy = simp append_assoc
@@ -76,8 +54,8 @@ pub one_net_policy : (lists : EstateLists) → IsLawful lists → (p q : ℕ) (a
     net_policy_name a ≡ net_policy_name b → p ≡ q
 one_net_policy lists lawful p q a b at_p at_q same =
     let well = net_policies_well lists lawful.well in
-    let name_a = lacks_slash a.namespace (namespace_is_name a (passes_at is_well_net_policy lists.net_policies p a well at_p)) in
-    let name_b = lacks_slash b.namespace (namespace_is_name b (passes_at is_well_net_policy lists.net_policies q b well at_q)) in
+    let name_a = name-lacks_slash a.namespace (namespace_is_name a (passes_at is_well_net_policy lists.net_policies p a well at_p)) in
+    let name_b = name-lacks_slash b.namespace (namespace_is_name b (passes_at is_well_net_policy lists.net_policies q b well at_q)) in
     let parts = cut 47 a.namespace b.namespace a.name b.name name_a name_b (sym (spelled a) ∙ same ∙ spelled b) in
     place_told full_name lists.net_policies (λ i j d before within. not_before (get_or lists.net_policies i d) (get_or lists.net_policies j d) (lawful.net_policies_ascend i j d before within)) p q a b
     at_p at_q (rw (parts.0, parts.1) refl)

@@ -1,8 +1,6 @@
 use Rattle.std.proofs.Common.{Some, sym, ap, ◌∙◌, option_map}
-use Rattle.np_check.specs.Prelude.{At, Family, Ingress, Work, counterexample_at}
-use Rattle.np_check.proofs.AddressLemmas.{all_to, counterexample_to, table_rows}
-use Rattle.np_fold.specs.Prelude.{folding_of}
-use Rattle.np_kinds.specs.Prelude.{address_allows}
+use Rattle.np_check.specs.Prelude.{At, Family, Work, counterexample_at}
+use Rattle.np_check.proofs.AddressLemmas.{all_to, counterexample_to}
 use Rattle.np_check.proofs.addresses.first_from.Goals as goal
 
 pub returns-in_default-clause-counterexample : goal.returns-in_default-clause-counterexample

@@ -1,9 +1,7 @@
 use Rattle.std.proofs.Common.{Some, sym, ap, ◌∙◌, option_map}
-use Rattle.np_check.specs.Prelude.{At, Egress, Family, First, Second, Work, counterexample_at, counterexample_between}
-use Rattle.np_check.proofs.AddressLemmas.{all_by, counterexample_by, table_rows}
+use Rattle.np_check.specs.Prelude.{At, Family, First, Second, Work, counterexample_at, counterexample_between}
+use Rattle.np_check.proofs.AddressLemmas.{all_by, counterexample_by}
 use Rattle.np_check.proofs.NoneLemmas.{none_of}
-use Rattle.np_fold.specs.Prelude.{folding_of}
-use Rattle.np_kinds.specs.Prelude.{address_allows}
 use Rattle.np_check.proofs.addresses.first_to_addresses.Goals as goal
 
 pub returns-then-is_empty-clause-counterexample : goal.returns-then-is_empty-clause-counterexample

@@ -1,4 +1,4 @@
-use Rattle.std.proofs.Common.{◌≡◌, ◌||◌, ◌&&◌, Bool, ap, sym, subst, ◌∙◌}
+use Rattle.std.proofs.Common.{◌||◌, ◌&&◌, Bool, ap, sym, subst, ◌∙◌}
 use Rattle.std.proofs.Math.Bool.{or-false}
 use Rattle.np_base.proofs.Lists.{list_any-next}
 use Rattle.np_conns.specs.Prelude.{Conns, IsConns, has_spot}

@@ -1,4 +1,4 @@
-use Rattle.std.proofs.Common.{◌≡◌, ap, ◌∙◌}
+use Rattle.std.proofs.Common.{ap, ◌∙◌}
 use Rattle.std.proofs.lemmas.Result.{IfOk-weaker}
 use Rattle.np_conns.specs.Prelude.{Conns, has_spot}
 use Rattle.np_conns.proofs.MeetLemmas.{all_met, met_all}

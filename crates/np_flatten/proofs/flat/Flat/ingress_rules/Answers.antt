@@ -1,4 +1,4 @@
-use Rattle.std.proofs.Common.{◌++◌, sym, ap, ◌∙◌}
+use Rattle.std.proofs.Common.{◌++◌, ap, ◌∙◌}
 use Rattle.np_flatten.proofs.ReceiverFacts.{groups-more}
 use Rattle.np_flatten.proofs.flat.Flat.ingress_rules.Goals as goal
 use Rattle.np_flatten.specs.Prelude.{EstateLists, rules_from_group}
