@@ -119,8 +119,9 @@ impl ConnSet {
         })
     }
 
-    /// Leaves the set as it is. Where it is that of before, and takes memory, both are held once from now on. So the thousands of
-    /// ports that a name stands for at a pod are held once for all rules in a row that have the name.
+    /// Leaves the set as it is, also where memory is wanting. Where it is that of before, and takes memory, both are held once
+    /// from now on. So the thousands of ports that a name stands for at a pod are held once for all rules in a row that have the
+    /// name.
     pub fn share_with(&mut self, before: Option<&ConnSet>) -> Result<(), NoMemory>
         ensures { self.new ≡ self.old }
     {

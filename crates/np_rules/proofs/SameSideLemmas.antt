@@ -51,7 +51,7 @@ alike-own policies p q =
 module _ (lists : EstateLists) (direction : Direction) (p q : PodEnd) (same : IsSameSide lists direction p q) where
   -- ---- the policies that select them
 
-  selected : SelectAlike lists p q
+  pub selected : SelectAlike lists p q
   selected = record {
     admin =
         All-weaker (λ policy. is_subject_of_both policy.subject p q ≡ true) (λ policy. subject_selects policy.subject p ≡ subject_selects policy.subject q)

@@ -6,6 +6,7 @@ ghost use Rattle.np_rules.specs.model.Sides as spec;
 
 use crate::admin_tier::admin_action;
 use crate::base_tier::base_action;
+use crate::layer_parts::is_allow;
 use crate::near_ends::view_at;
 use crate::net_tier::{is_isolated, permits};
 use crate::packet::{End, Packet};
@@ -113,7 +114,7 @@ fn base_says(action: Option<Action>) -> bool
         result ≡ spec.base_says decider }
 {
     match action {
-        Some(action) => action == Action::Allow,
+        Some(action) => is_allow(action),
         None => true,
     }
 }
