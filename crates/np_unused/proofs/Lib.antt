@@ -20,4 +20,5 @@ pub mod SameKindLemmas
 pub mod SearchLemmas
 pub mod StayLemmas
 pub mod StepLemmas
+pub mod UnknownLemmas
 pub mod WithoutLemmas

@@ -1,17 +1,17 @@
 -- Of a far end that is out of reach of a side, no rule of a NetworkPolicy or of the baseline decides anything.
 -- For `search_kind` and `search_side`.
-use Rattle.std.proofs.Common.{◌≡◌, ℕ, ◌<◌, List, [], ◌∷◌, Bool, true, false, ◌&&◌, ◌||◌, not, filter, length, slice_get, Option, Some, None, refl, sym, ap, ◌∙◌, subst, arith, if◌then◌else◌}
+use Rattle.std.proofs.Common.{◌≡◌, ℕ, ◌<◌, List, [], ◌∷◌, Bool, true, false, ◌&&◌, ◌||◌, filter, length, slice_get, Option, Some, None, refl, sym, ap, ◌∙◌, subst, arith, if◌then◌else◌}
 use Rattle.std.specs.List.{list_any}
 use Rattle.std.specs.Option.{option_map, option_map_or}
-use Rattle.std.proofs.lemmas.Bool.{false≢true, not-false, or_parts}
+use Rattle.std.proofs.lemmas.Bool.{false≢true, or_parts}
 use Rattle.std.proofs.lemmas.Option.{slice_get-get_or, slice_get-map, slice_get_within}
-use Rattle.np_unused.specs.Prelude.{AreKindPods, AreKinds, AreRulesOf, Decider, Direction, EstateLists, Family, IsSearch, IsSearchOf, KindPod, Kinds, Knows, KnowsAll, KnowsLeft, KnowsLeftOf, LayerRules, Left, RuleName, Search, Searched, UsedRules, are_known, is_asked, may_tell, ref_of, rule_in, rule_name}
+use Rattle.np_unused.specs.Prelude.{AreKindPods, AreKinds, AreRulesOf, Decider, Direction, EstateLists, Family, IsSearch, IsSearchOf, KindPod, Kinds, Knows, KnowsAll, KnowsLeft, KnowsLeftOf, LayerRules, Left, RuleName, Search, Searched, Tier, UsedRules, is_asked, is_known, may_tell, ref_of, rule_count_at, rule_in, rule_name, side_decider, some_unknown_speaks, speaks_in, stands_in}
 use Rattle.np_conns.specs.Prelude.{is_spot}
 use Rattle.np_model.specs.Prelude.{IsLawful}
 use Rattle.np_explain.specs.Prelude.{same_rule}
 use Rattle.np_fold.specs.Prelude.{folding_of}
 use Rattle.np_unused.proofs.FindLemmas.{addresses_listed, pods_listed}
-use Rattle.np_unused.proofs.SearchLemmas.{knows_admin}
+use Rattle.np_unused.proofs.SearchLemmas.{speaker_known}
 use Rattle.np_unused.proofs.StepLemmas.{kind_at, kind_is, pod_of_kind, searched_as}
 use Rattle.np_unused.specs.declared.rule_ref.Tier.TheVariants as tier
 use Rattle.np_model.specs.declared.admin_policy.Action.{Action}
@@ -19,7 +19,7 @@ use Rattle.np_model.specs.declared.admin_policy.Action.TheVariants.{Allow, Deny,
 use Rattle.np_reach.proofs.MarkLemmas.{may_at-of}
 use Rattle.np_reach.proofs.ReachLemmas.{isolated-out_of_reach, unmatched-out_of_reach}
 use Rattle.np_reach.specs.Prelude.{may_at, may_reach}
-use Rattle.np_rules.specs.Prelude.{Contact, PlacedAdminRule, PlacedNetRule, PodEnd, PodSide, action_decides, admin_decider, admin_decides, admin_rule_name, base_decider, base_decides, decider, isolating_names, least_by, lower_decider, near_pod, net_decider, net_decides, net_places, net_precedes, placed_net_matches, pod, pod_at, side_of, with_pod}
+use Rattle.np_rules.specs.Prelude.{Contact, PlacedAdminRule, PlacedNetRule, PodEnd, PodSide, PortSpot, action_decides, admin_decider, admin_decides, admin_rule_name, base_decider, base_decides, decider, isolating_names, least_by, lower_decider, near_pod, net_decider, net_decides, net_places, net_precedes, placed_net_matches, pod, pod_at, side_of, with_pod}
 use Rattle.np_rules.specs.declared.decider.Decider.TheVariants as decides
 use Rattle.np_kinds.specs.Prelude.{first_end, first_ends}
 
@@ -60,27 +60,57 @@ module _ (lists : EstateLists) (direction : Direction) (near : PodEnd) (contact 
 
 -- ---- a kind that is out of reach
 
--- where the admin rules of a side are known, so is whatever stands in what decides with a pod that is out of its reach
-quiet_known : (side : PodSide) → IsLawful side.lists → (rules : LayerRules) → AreRulesOf side rules → (used : UsedRules) → are_known used.admin rules.admin ≡ true → (far : ℕ) (family : Family) →
-    may_reach side.lists side.direction (near_pod side) (pod (pod_at side.lists far)) ≡ false → KnowsAll is_spot side (with_pod far family) used
-unfolding Knows
-quiet_known side lawful rules are used all far family out spot inside tier.Admin policy place valid stands =
-    knows_admin side lawful rules are used all (with_pod far family side spot) policy place valid stands
-quiet_known side lawful rules are used all far family out spot inside tier.Net policy place valid stands =
-    absurd (false≢true (sym (ap (λ (found : Option RuleName). option_map_or (same_rule (rule_name side.lists (ref_of side.direction tier.Net policy place))) found false)
-    (no_rule side.lists side.direction (near_pod side) (with_pod far family side spot) out (rule_in tier.Net) (λ rule allow. refl) (λ pass names. refl))) ∙ stands))
-quiet_known side lawful rules are used all far family out spot inside tier.Base policy place valid stands =
-    absurd (false≢true (sym (ap (λ (found : Option RuleName). option_map_or (same_rule (rule_name side.lists (ref_of side.direction tier.Base policy place))) found false)
-    (no_rule side.lists side.direction (near_pod side) (with_pod far family side spot) out (rule_in tier.Base) (λ rule allow. refl) (λ pass names. refl))) ∙ stands))
+module _ (side : PodSide) (lawful : IsLawful side.lists) (rules : LayerRules) (are : AreRulesOf side rules) (used : UsedRules) (far : ℕ) (family : Family) where
+  -- whether a rule of a tier that is not known speaks of the pod
+  abbrev speaks : Tier → Bool
+  speaks one = some_unknown_speaks side.lists side.direction used rules one (pod (pod_at side.lists far)) family
+
+  heard : (one : Tier) → speaks one ≡ false → (spot : PortSpot) (policy place : ℕ) → place < rule_count_at side.lists one side.direction policy →
+      stands_in side.lists (ref_of side.direction one policy place) (side_decider side (with_pod far family side spot)) ≡ true → is_known used one policy place ≡ true
+  heard one silent spot policy place valid stands = speaker_known side lawful rules are used (with_pod far family side spot) one silent policy place valid stands
+
+  -- where none of any tier does, whatever stands in what decides with it is known
+  silent_known : speaks tier.Admin ≡ false → speaks tier.Net ≡ false → speaks tier.Base ≡ false → KnowsAll is_spot side (with_pod far family) used
+  unfolding Knows
+  silent_known admin net base spot inside tier.Admin = heard tier.Admin admin spot
+  silent_known admin net base spot inside tier.Net = heard tier.Net net spot
+  silent_known admin net base spot inside tier.Base = heard tier.Base base spot
+
+  -- and so it is where no such admin rule does, and the pod is out of the side's reach
+  quiet_known : speaks tier.Admin ≡ false → may_reach side.lists side.direction (near_pod side) (pod (pod_at side.lists far)) ≡ false → KnowsAll is_spot side (with_pod far family) used
+  unfolding Knows
+  quiet_known admin out spot inside tier.Admin policy place valid stands = heard tier.Admin admin spot policy place valid stands
+  quiet_known admin out spot inside tier.Net policy place valid stands =
+      absurd (false≢true (sym (ap (λ (found : Option RuleName). option_map_or (same_rule (rule_name side.lists (ref_of side.direction tier.Net policy place))) found false)
+      (no_rule side.lists side.direction (near_pod side) (with_pod far family side spot) out (rule_in tier.Net) (λ rule allow. refl) (λ pass names. refl))) ∙ stands))
+  quiet_known admin out spot inside tier.Base policy place valid stands =
+      absurd (false≢true (sym (ap (λ (found : Option RuleName). option_map_or (same_rule (rule_name side.lists (ref_of side.direction tier.Base policy place))) found false)
+      (no_rule side.lists side.direction (near_pod side) (with_pod far family side spot) out (rule_in tier.Base) (λ rule allow. refl) (λ pass names. refl))) ∙ stands))
 
 -- a kind that tells of nothing may be passed over
-pub quiet_kind : (search : Search) → IsSearch search → (used : UsedRules) (kind : ℕ) (far : KindPod) → slice_get search.kinds.pods.now kind ≡ Some far → may_tell search used kind far ≡ false →
-    is_asked search.near kind far ≡ true → (family : Family) → KnowsAll is_spot search.side.now (with_pod far.pod family) used
-quiet_kind search is used kind far at silent asked family =
-    let reaches = may_at search.kinds.reach.now search.near kind in
-    let known = are_known used.admin search.rules.now.admin in
-    let parts = or_parts reaches (not known) (ap (λ (b : Bool). b && (reaches || not known)) (sym asked) ∙ silent) in
-    quiet_known search.side.now is.lawful search.rules.now is.rules used (not-false known parts.1) far.pod family (sym (is.reach kind far at) ∙ parts.0)
+pub quiet_kind : (search : Search) → IsSearch search → (used : UsedRules) (kind : ℕ) (far : KindPod) → slice_get search.kinds.pods.now kind ≡ Some far → (family : Family) →
+    may_tell search used kind far family ≡ false → is_asked search.near kind far ≡ true → KnowsAll is_spot search.side.now (with_pod far.pod family) used
+quiet_kind search is used kind far at family silent asked = by (may_at search.kinds.reach.now search.near kind) refl parts.1
+  where
+    parts : (speaks_in search used tier.Admin far family ≡ false)
+        × ((may_at search.kinds.reach.now search.near kind && (speaks_in search used tier.Net far family || speaks_in search used tier.Base far family)) ≡ false)
+    parts = or_parts (speaks_in search used tier.Admin far family)
+        (may_at search.kinds.reach.now search.near kind && (speaks_in search used tier.Net far family || speaks_in search used tier.Base far family))
+        (ap (λ (b : Bool). b && (speaks_in search used tier.Admin far family
+        || (may_at search.kinds.reach.now search.near kind && (speaks_in search used tier.Net far family || speaks_in search used tier.Base far family)))) (sym asked) ∙ silent)
+
+    unheard : (one : Tier) → speaks_in search used one far family ≡ false → some_unknown_speaks search.side.now.lists search.side.now.direction used search.rules.now one (pod (pod_at search.side.now.lists far.pod)) family ≡ false
+    unheard one none =
+        sym (ap (λ (lists : EstateLists). some_unknown_speaks lists search.kinds.direction used search.rules.now one (pod (pod_at lists far.pod)) family) is.estate_is
+        ∙ ap (λ (direction : Direction). some_unknown_speaks search.side.now.lists direction used search.rules.now one (pod (pod_at search.side.now.lists far.pod)) family) is.direction_is)
+        ∙ none
+
+    by : (reaches : Bool) → may_at search.kinds.reach.now search.near kind ≡ reaches → (reaches && (speaks_in search used tier.Net far family || speaks_in search used tier.Base far family)) ≡ false →
+        KnowsAll is_spot search.side.now (with_pod far.pod family) used
+    by false out none = quiet_known search.side.now is.lawful search.rules.now is.rules used far.pod family (unheard tier.Admin parts.0) (sym (is.reach kind far at) ∙ out)
+    by true within none =
+        let lower = or_parts (speaks_in search used tier.Net far family) (speaks_in search used tier.Base far family) none in
+        silent_known search.side.now is.lawful search.rules.now is.rules used far.pod family (unheard tier.Admin parts.0) (unheard tier.Net lower.0) (unheard tier.Base lower.1)
 
 -- ---- what the first pods of the kinds may let through
 
@@ -95,14 +125,15 @@ first_of lists kinds are kind one at =
 
 -- what a search goes by is right, where the side is that of the pod of a kind
 pub search_is : (kinds : Kinds) → AreKinds kinds → (near : ℕ) → near < length kinds.pods.now → (side : PodSide) → side ≡ side_of kinds.estate.now (pod_of_kind kinds.pods.now near).pod kinds.direction →
-    (rules : LayerRules) → AreRulesOf side rules → IsSearchOf kinds.estate.now side kinds.pods.now kinds.reach.now near rules
+    (rules : LayerRules) → AreRulesOf side rules → IsSearchOf kinds.estate.now kinds.direction side kinds.pods.now kinds.reach.now near rules
 search_is kinds are near within side is rules of_side =
     let lists = kinds.estate.now in
     let pods = kinds.pods.now in
     let one = pod_of_kind pods near in
     let at : slice_get pods near ≡ Some one = kind_at pods near within in
-    subst (λ (s : PodSide). IsSearchOf lists s pods kinds.reach.now near rules) (sym is) (record {
+    subst (λ (s : PodSide). IsSearchOf lists kinds.direction s pods kinds.reach.now near rules) (sym is) (record {
       estate_is = refl;
+      direction_is = refl;
       lawful = are.lawful;
       kinds = are.pods;
       rules = subst (λ (s : PodSide). AreRulesOf s rules) is of_side;

@@ -5,11 +5,12 @@ use Rattle.std.proofs.lemmas.Bool.{and_from, and_parts}
 use Rattle.np_model.specs.Prelude.{IsLawful}
 use Rattle.np_explain.specs.Prelude.{IsMarkOf, admin_rules, base_rules, mark_decider, net_rules, same_rule}
 use Rattle.np_explain.proofs.WalkLemmas.{mark_named}
-use Rattle.np_unused.proofs.KnownLemmas.{marks_test}
+use Rattle.np_unused.proofs.KnownLemmas.{marks_admin, marks_base, marks_net, marks_test}
 use Rattle.np_unused.proofs.NameLemmas.{mark_rule, met_flagged, met_named}
-use Rattle.np_unused.specs.Prelude.{AllAreUsed, AreRulesOf, AreUsed, IsSound, Knows, KnowsAll, Layer, LayerRules, Mark, Notes, Searched, Tier, UsedRules, all_known, are_known, flag_at, flags_of, ids_of, is_known, is_met, marks, place_in, ref_of, rule_count_at, rule_name, side_decider, stands_in}
+use Rattle.np_unused.proofs.UnknownLemmas.{admin_speaks, base_speaks, first_flagged, net_speaks}
+use Rattle.np_unused.specs.Prelude.{AdminPart, AllAreUsed, AreRulesOf, AreUsed, IsSound, Knows, KnowsAll, Layer, LayerRules, Mark, Notes, Searched, Tier, UsedRules, all_known, flag_at, flags_of, ids_of, is_known, is_met, marks, place_in, ref_of, rule_count_at, rule_name, rule_speaks, side_decider, some_unknown_speaks, stands_in}
 use Rattle.np_unused.specs.declared.rule_ref.Tier.TheVariants as tier
-use Rattle.np_rules.specs.Prelude.{Contact, IsAdminPart, IsBasePart, IsLayer, IsSetOf, Pairwise, PodSide, admin_rule_matches, is_allow, is_isolated, matches_of, near_pod}
+use Rattle.np_rules.specs.Prelude.{BasePart, Contact, IsAdminPart, IsBasePart, IsLayer, IsSetOf, Pairwise, PodSide, admin_rule_matches, is_allow, is_isolated, matches_of, near_pod}
 use Rattle.np_tiers.specs.Prelude.{mark_of}
 
 -- ---- marks and rules
@@ -87,11 +88,25 @@ module _ (side : PodSide) (lawful : IsLawful side.lists) where
       flagged tier.Net met = met_flagged (flag_at used.net) rules.net _ policy place (and_parts _ _ (and_parts _ _ all).0).1 met
       flagged tier.Base met = met_flagged (flag_at used.base) rules.base _ policy place (and_parts _ _ all).1 met
 
-  -- where the admin rules of the side are known, so is the one that stands in what decides
-  pub knows_admin : (rules : LayerRules) → AreRulesOf side rules → (used : UsedRules) → are_known used.admin rules.admin ≡ true → (looks_at : Contact) (policy place : ℕ) →
-      place < rule_count_at side.lists tier.Admin side.direction policy → stands_in side.lists (ref_of side.direction tier.Admin policy place) (side_decider side looks_at) ≡ true →
-      is_known used tier.Admin policy place ≡ true
-  unfolding is_known marks
-  knows_admin rules are used all looks_at policy place valid stands =
-      met_flagged (flag_at used.admin) rules.admin (place_in tier.Admin (mark_of (λ set. has_contact set looks_at) tests)) policy place all
-      (sym (stands_at has_contact (λ _. true) side (λ _ contact. contact) tests lawful is_layer rules are looks_at refl tier.Admin policy place valid) ∙ stands)
+  -- a rule that stands in what decides with a far end is known, where no rule of its tier that is not known speaks of that one
+  pub speaker_known : (rules : LayerRules) → AreRulesOf side rules → (used : UsedRules) (looks_at : Contact) (one : Tier) →
+      some_unknown_speaks side.lists side.direction used rules one looks_at.far looks_at.family ≡ false → (policy place : ℕ) → place < rule_count_at side.lists one side.direction policy →
+      stands_in side.lists (ref_of side.direction one policy place) (side_decider side looks_at) ≡ true → is_known used one policy place ≡ true
+  unfolding tests has_contact is_known
+  speaker_known rules are used looks_at one silent policy place valid stands =
+      known one silent (sym (stands_at has_contact (λ _. true) side (λ _ contact. contact) tests lawful is_layer rules are looks_at refl one policy place valid) ∙ stands)
+    where
+      at : (Contact → Bool) → Bool
+      at set = set looks_at
+
+      known : (other : Tier) → some_unknown_speaks side.lists side.direction used rules other looks_at.far looks_at.family ≡ false →
+          marks rules other policy place (mark_of at tests) ≡ true → is_known used other policy place ≡ true
+      known tier.Admin silent marked = first_flagged (flag_at used.admin) (λ id. rule_speaks side.lists side.direction tier.Admin id looks_at.far looks_at.family) (λ (part : AdminPart (Contact → Bool)). at part.set) _ rules.admin
+          (admin_rules side) (admin_speaks side.lists side.direction (near_pod side) looks_at rules.admin are.admin) silent policy place
+          (sym (marks_admin at tests rules policy place) ∙ marked)
+      known tier.Net silent marked = first_flagged (flag_at used.net) (λ id. rule_speaks side.lists side.direction tier.Net id looks_at.far looks_at.family) at matches_of rules.net (net_rules side)
+          (net_speaks side.lists side.direction (near_pod side) looks_at rules.net are.net) silent policy place
+          (and_parts _ _ (and_parts _ _ (sym (marks_net at tests rules policy place) ∙ marked)).1).1
+      known tier.Base silent marked = first_flagged (flag_at used.base) (λ id. rule_speaks side.lists side.direction tier.Base id looks_at.far looks_at.family) (λ (part : BasePart (Contact → Bool)). at part.set) _ rules.base
+          (base_rules side) (base_speaks side.lists side.direction (near_pod side) looks_at rules.base are.base) silent policy place
+          (and_parts _ _ (and_parts _ _ (sym (marks_base at tests rules policy place) ∙ marked)).1).1

@@ -9,8 +9,9 @@ pub use Rattle.np_unused.specs.Without.{admin_without, base_without, goes, net_w
 unfoldable pub use Rattle.np_unused.specs.Without.{without}
 pub use Rattle.np_unused.specs.steps.Firsts.{Notes, first_at, first_rule, hands_down, is_pass, names}
 pub use Rattle.np_unused.specs.steps.Kinds.{AreKindPods, AreKindPodsOf, IsKindPodOf, first_of_kind, is_asked, pod_kind}
-pub use Rattle.np_unused.specs.steps.Known.{are_known, base_place, flag_at, flag_in, flag_of, flags_of, ids_of, is_id, is_met, net_place, place_in}
+pub use Rattle.np_unused.specs.steps.Known.{base_place, flag_at, flag_in, flag_of, flags_of, ids_of, is_id, is_met, net_place, place_in}
 unfoldable pub use Rattle.np_unused.specs.steps.Known.{all_known, is_known, marks}
 pub use Rattle.np_unused.specs.steps.SameKinds.{IsLeft, IsSameBefore}
-pub use Rattle.np_unused.specs.steps.Search.{AllAreUsed, AreKinds, AreRulesOf, Grows, IsSearch, IsSearchOf, IsWithin, KnowsAll, KnowsBefore, KnowsFamilies, KnowsFar, KnowsKind, KnowsLeft, KnowsLeftOf, KnowsSide, KnowsToward, Searched, is_known_by, known_in, may_tell, ref_of, side_decider}
+pub use Rattle.np_unused.specs.steps.Search.{AllAreUsed, AreKinds, AreRulesOf, Grows, IsSearch, IsSearchOf, IsWithin, KnowsAll, KnowsBefore, KnowsFamilies, KnowsFar, KnowsKind, KnowsLeft, KnowsLeftOf, KnowsSide, KnowsToward, Searched, is_known_by, known_in, may_tell, ref_of, side_decider, speaks_in}
 unfoldable pub use Rattle.np_unused.specs.steps.Search.{AreUsed, Finds, IsSound, Knows, KnowsPods, KnowsSides, PodsAreUsed}
+pub use Rattle.np_unused.specs.steps.Unknown.{net_rule_speaks, rule_speaks, some_unknown_speaks}

@@ -4,3 +4,4 @@ pub mod Kinds
 pub mod Known
 pub mod SameKinds
 pub mod Search
+pub mod Unknown

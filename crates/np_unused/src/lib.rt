@@ -12,6 +12,7 @@ mod rule_ref;
 mod rule_spots;
 mod same_kinds;
 mod search;
+mod unknown_rules;
 mod unused;
 mod used_rules;
 

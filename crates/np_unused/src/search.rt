@@ -1,18 +1,19 @@
 //! The search for the rules that are used.
-ghost use Rattle.std.specs.Prelude.{◌≡◌, ◌<◌, Some, slice_get, length, IfOk, OnOk};
+ghost use Rattle.std.specs.Prelude.{◌≡◌, ◌<◌, length, IfOk, OnOk};
 ghost use Rattle.std.specs.List.{Contains};
-ghost use Rattle.np_unused.specs.declared.kind_pods.KindPod.{KindPod as SpecPod};
 ghost use Rattle.np_unused.specs.steps.Kinds.{is_asked};
 ghost use Rattle.np_unused.specs.steps.SameKinds.{IsLeft};
-ghost use Rattle.np_unused.specs.steps.Search.{AreKinds, Finds, IsSearch, IsWithin, KnowsAll, KnowsBefore, KnowsFamilies, KnowsFar, KnowsKind, KnowsLeft, KnowsLeftOf, KnowsPods, KnowsToward, Searched, may_tell};
+ghost use Rattle.np_unused.specs.steps.Search.{AreKinds, Finds, IsSearch, IsWithin, KnowsAll, KnowsBefore, KnowsFamilies, KnowsFar, KnowsKind, KnowsLeft, KnowsLeftOf, KnowsPods, KnowsToward, Searched, may_tell, speaks_in};
 ghost use Rattle.np_model.specs.Prelude.{families_of};
 ghost use Rattle.np_reach.specs.Prelude.{reach_of};
 ghost use Rattle.np_rules.specs.Prelude.{is_address_spot, with_addresses};
 ghost use Rattle.np_kinds.specs.Prelude.{first_ends};
 
 use crate::kind_pods::{KindPod, Kinds, kind_pods};
+use crate::rule_ref::Tier;
 use crate::same_kinds::{Left, SameKinds};
-use crate::used_rules::{UsedRules, has_each};
+use crate::unknown_rules::FarPod;
+use crate::used_rules::UsedRules;
 use np_addr::Family;
 use np_base::NoMemory;
 use np_fold::Folded;
@@ -31,16 +32,32 @@ pub(crate) struct Search<'e, 'p, 's> {
 }
 
 impl Search<'_, '_, '_> {
-    /// Whether the pod of a kind as the far end may tell of a rule that is not known yet. Of a far end that the side lets
-    /// through in no case, NetworkPolicies and the baseline decide nothing, so that it tells of admin rules alone.
-    fn may_tell(&self, kind: usize, used: &UsedRules) -> bool
-        requires { kind < length self.now.kinds.pods.now }
-        ensures { (far : SpecPod) → slice_get self.now.kinds.pods.now kind ≡ Some far →
-            result ≡ may_tell self.now used.now kind far }
+    /// Whether a kind, by its number and its pod as the far end, may tell of a rule that is not known yet: some such rule speaks of
+    /// the pod. Of a far end that the side lets through in no case, NetworkPolicies and the baseline decide nothing, so that it
+    /// tells of admin rules alone.
+    fn may_tell(&self, kind: usize, far: &KindPod, family: Family, used: &UsedRules) -> bool
+        requires { far.now.pod < length self.now.kinds.estate.now.pods }
+        ensures { result ≡ may_tell self.now used.now kind far.now family }
     {
-        is_asked(self.near, kind, &self.kinds.pods[kind])
-            && (self.kinds.reach.may(self.near, kind)
-                || !has_each(&used.admin, self.rules.admin.items()))
+        is_asked(self.near, kind, far)
+            && (self.speaks_in(Tier::Admin, far, family, used)
+                || (self.kinds.reach.may(self.near, kind)
+                    && (self.speaks_in(Tier::Net, far, family, used)
+                        || self.speaks_in(Tier::Base, far, family, used))))
+    }
+
+    // Whether a rule of a tier that is not known yet speaks of the pod of a kind.
+    fn speaks_in(&self, tier: Tier, far: &KindPod, family: Family, used: &UsedRules) -> bool
+        requires { far.now.pod < length self.now.kinds.estate.now.pods }
+        ensures { result ≡ speaks_in self.now used.now tier far.now family }
+    {
+        let pod = FarPod {
+            estate: self.kinds.estate,
+            direction: self.kinds.direction,
+            pod: &self.kinds.estate.pods()[far.pod as usize],
+            family,
+        };
+        pod.some_unknown_speaks(tier, self.rules, used)
     }
 }
 
@@ -220,11 +237,11 @@ fn search_kind(
     ensures { OnOk result (Searched search.now.side.now.lists search.now.side.now.direction
         (KnowsFar search.now.side.now search.now.kinds.pods.now search.now.near family kind) used.old used.new) }
 {
-    if !search.may_tell(kind, used) {
+    let far = &search.kinds.pods[kind];
+    if !search.may_tell(kind, far, family, used) {
         return Ok(());
     }
-    let far = search.kinds.pods[kind].pod;
-    let layer = search.side.pod_layer(search.kinds.alloc, far, family)?;
+    let layer = search.side.pod_layer(search.kinds.alloc, far.pod, family)?;
     used.note_layer(search.kinds.alloc, layer, search.rules)
 }
 

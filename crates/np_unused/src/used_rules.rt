@@ -96,8 +96,8 @@ impl UsedRules {
     }
 }
 
-/// Whether all rules of a tier are known to be used.
-pub(crate) fn has_each(flags: &Flags, ids: &[RuleId]) -> bool
+// Whether all rules of a tier are known to be used.
+fn has_each(flags: &Flags, ids: &[RuleId]) -> bool
     ensures { result ≡ are_known flags.now ids.now }
 {
     ids.iter().all(|id| flags.has(id.policy, id.place))

@@ -1,5 +1,5 @@
 -- What a search for used rules has found.
-use Rattle.std.specs.Prelude.{◌≡◌, ℕ, ◌<◌, List, Bool, true, ◌&&◌, ◌||◌, not, Some, slice_get}
+use Rattle.std.specs.Prelude.{◌≡◌, ℕ, ◌<◌, List, Bool, true, ◌&&◌, ◌||◌, Some, slice_get}
 use Rattle.std.specs.List.{Contains}
 use Rattle.np_unused.specs.Types.{AllEnds, Decider, Direction, Egress, EstateLists, Family, Ingress, KindPod, Kinds, LayerRules, Left, OneKind, RuleRef, Search, Tier, UsedRules}
 use Rattle.np_conns.specs.Prelude.{is_spot}
@@ -8,7 +8,9 @@ use Rattle.np_explain.specs.Prelude.{admin_rules, base_rules, net_rules}
 use Rattle.np_unused.specs.Rules.{rule_count_at}
 use Rattle.np_unused.specs.Used.{is_used, stands_in}
 use Rattle.np_unused.specs.steps.Kinds.{AreKindPods, is_asked}
-use Rattle.np_unused.specs.steps.Known.{are_known, is_known}
+use Rattle.np_unused.specs.steps.Known.{is_known}
+use Rattle.np_unused.specs.steps.Unknown.{some_unknown_speaks}
+use Rattle.np_unused.specs.declared.rule_ref.Tier.TheVariants as tier
 use Rattle.np_reach.specs.Prelude.{may_at, may_reach, reach_of}
 use Rattle.np_rules.specs.Prelude.{Contact, NamesAdmin, NamesBase, NamesNet, Pairwise, PodSide, decider, is_address_spot, near_pod, pod, pod_at, side_of, with_addresses, with_pod}
 use Rattle.np_kinds.specs.Prelude.{first_ends}
@@ -114,8 +116,9 @@ pub record AreKinds (kinds : Kinds) : Type 0 where
   pub reach : kinds.reach.now ≡ reach_of kinds.estate.now kinds.direction (first_ends kinds.estate.now)
 
 -- seen from the side of one of them, of which these are the rules; what decides what the side looks at is used
-pub record IsSearchOf (estate : EstateLists) (side : PodSide) (pods : List KindPod) (marks : List (List Bool)) (near : ℕ) (ids : LayerRules) : Type 0 where
+pub record IsSearchOf (estate : EstateLists) (direction : Direction) (side : PodSide) (pods : List KindPod) (marks : List (List Bool)) (near : ℕ) (ids : LayerRules) : Type 0 where
   pub estate_is : estate ≡ side.lists
+  pub direction_is : direction ≡ side.direction
   pub lawful : IsLawful side.lists
   pub kinds : AreKindPods side.lists pods
   pub rules : AreRulesOf side ids
@@ -124,17 +127,24 @@ pub record IsSearchOf (estate : EstateLists) (side : PodSide) (pods : List KindP
   pub reach : (kind : ℕ) (far : KindPod) → slice_get pods kind ≡ Some far → may_at marks near kind ≡ may_reach side.lists side.direction (near_pod side) (pod (pod_at side.lists far.pod))
 
 abbrev pub IsSearch : Search → Type 0
-IsSearch search = IsSearchOf search.kinds.estate.now search.side.now search.kinds.pods.now search.kinds.reach.now search.near search.rules.now
+IsSearch search = IsSearchOf search.kinds.estate.now search.kinds.direction search.side.now search.kinds.pods.now search.kinds.reach.now search.near search.rules.now
 
 -- the kind that is left, if it is one, is one of so many
 abbrev pub IsWithin : ℕ → Left → Type 0
 IsWithin count AllEnds = Unit {0}
 IsWithin count (OneKind kind) = kind < count
 
--- Whether a kind may tell of a rule that is not known: it is asked for, and may be let through, or there are admin
--- rules that are not known.
-abbrev pub may_tell : Search → UsedRules → ℕ → KindPod → Bool
-may_tell search used kind far = is_asked search.near kind far && (may_at search.kinds.reach.now search.near kind || not (are_known used.admin search.rules.now.admin))
+-- whether a rule of a tier that is not known speaks of a kind, in packets of a family
+abbrev pub speaks_in : Search → UsedRules → Tier → KindPod → Family → Bool
+speaks_in search used one far family = some_unknown_speaks search.kinds.estate.now search.kinds.direction used search.rules.now one (pod (pod_at search.kinds.estate.now far.pod)) family
+
+-- Whether a kind may tell of a rule that is not known: it is asked for, and such an admin rule speaks of it, or it may be let
+-- through and such a rule of the other tiers does.
+abbrev pub may_tell : Search → UsedRules → ℕ → KindPod → Family → Bool
+may_tell search used kind far family =
+    is_asked search.near kind far
+    && (speaks_in search used tier.Admin far family
+    || (may_at search.kinds.reach.now search.near kind && (speaks_in search used tier.Net far family || speaks_in search used tier.Base far family)))
 
 -- ---- what a search finds
 
